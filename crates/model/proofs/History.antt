@@ -1,0 +1,162 @@
+-- Every run that begins with an accepted open, from any state: the tree kept beside the plain list holds exactly its marks, in order and balanced,
+-- no more of them than the capacity; no step gives 3 or 4; each count's visits are within the bound. Assumes nothing.
+use Prim.Native.Nat.{ℕ, _+_, _*_, _≤_}
+use mathlib.Core.Path.{_≡_}
+use mathlib.Core.Logic.{_≢_}
+use mathlib.Core.Bool.{true, _||_}
+use mathlib.Core.List.{List, [], _∷_}
+use native.Mathlib.Omega.{arith}
+use lib.Dec.{ltb, eqb}
+use lib.ListN.{length}
+use borrow.Author.Tests.{ltb-true, ltb-false, eqb-false}
+use Rattle.model.specs.Lists.{countIf, filterBy, insertSorted}
+use Rattle.model.specs.Sizes.{D, W, capacityOutside}
+use Rattle.model.specs.Sheet.{Mark, Box, belowX, same, holds, markOutside, boxCrossed, main}
+use Rattle.model.specs.Refusals.{openTable, enterMark, enterBox}
+use Rattle.model.specs.History.{Call, openFor, insert, strike, count, list, check, State, Answer, refusal, updated, counted, listedIn, has, whichList, answer, next}
+use Rattle.model.proofs.Logic.{by-cases}
+use Rattle.model.proofs.Lists.{countIf-true, insertSorted-countIf, removeFirst-length, filterBy-length}
+use Rattle.model.proofs.TwoFold.{Agrees, open-agrees, insert-agrees, strike-agrees, count-visits, list-visits}
+
+-- a state as a run leaves it
+pub record Right (s : State) : Type 0 where
+  pub agrees : Agrees (s .tree) (s .plain)
+  pub fits : length (s .plain) ≤ s .capacity
+
+insertSorted-length : (m : Mark) (l : List Mark) → length (insertSorted belowX m l) ≡ length l + 1
+insertSorted-length m l =
+    omega (arith, countIf-true (insertSorted belowX m l), insertSorted-countIf belowX (λ q. true) m l, countIf-true l)
+
+-- an accepted open makes any state right
+pub open-right : (c lent : ℕ) (s : State) → answer (openFor c lent) s .number ≡ 0 → Right (next (openFor c lent) s)
+open-right c lent s e = rw e (record { agrees = open-agrees; fits = omega arith })
+
+-- and every call keeps it so
+pub next-right : (c : Call) (s : State) → Right s → Right (next c s)
+unfolding openTable enterMark enterBox
+next-right (openFor c lent) s r =
+    by-cases (eqb (answer (openFor c lent) s .number) 0)
+    (λ t. rw t (record { agrees = open-agrees; fits = omega arith }))
+    (λ t. rw t r)
+next-right (insert m) s r =
+    by-cases (markOutside m)
+    (λ t. rw t r)
+    (λ t. by-cases (has m (s .plain))
+    (λ u. rw (t, u) r)
+    (λ u. by-cases (eqb (length (s .plain)) (s .capacity))
+    (λ v. rw (t, u, v) r)
+    (λ v. rw (t, u, v) (record {
+      agrees = insert-agrees m (s .tree) (s .plain) (omega (arith, ltb-false 0 (countIf (same m) (s .plain)) u)) (r .agrees);
+      fits = omega (arith, insertSorted-length m (s .plain), eqb-false (length (s .plain)) (s .capacity) v, r .fits);
+    }))))
+next-right (strike m) s r =
+    by-cases (markOutside m)
+    (λ t. rw t r)
+    (λ t. by-cases (has m (s .plain))
+    (λ u.
+    let h = ltb-true 0 (countIf (same m) (s .plain)) u in
+    rw (t, u) (record {
+      agrees = strike-agrees m (s .tree) (s .plain) h (r .agrees);
+      fits = omega (arith, removeFirst-length (same m) (s .plain) h, r .fits);
+    }))
+    (λ u. rw (t, u) r))
+next-right (count b) s r = by-cases (eqb (answer (count b) s .number) 0) (λ t. rw t r) (λ t. rw t r)
+next-right (list b first second) s r = by-cases (eqb (answer (list b first second) s .number) 0) (λ t. rw t r) (λ t. rw t r)
+next-right check s r = r
+
+-- an answer is a refusal, which is never 3 or 4, or has the figures of an update, a count or a list
+module _ (P : Answer → Type 0) (s : State) (refuses : (n k : ℕ) → n ≢ 3 → n ≢ 4 → P (refusal n k)) (updates : (n w : ℕ) → P (updated n w))
+    (counts : (b : Box) → P (counted (countIf (holds b) (s .plain)) (main .count b (s .tree) .visits)))
+    (lists : (b : Box) (w : ℕ) → P (listedIn w (filterBy (holds b) (s .plain)) (main .list b (s .tree) .visits))) where
+  answer-cases : (c : Call) → P (answer c s)
+  unfolding openTable enterMark enterBox
+  answer-cases (openFor c lent) =
+      by-cases (capacityOutside c)
+      (λ t. rw t (refuses 1 0 (omega arith) (omega arith)))
+      (λ t. by-cases (ltb lent (W c)) (λ u. rw (t, u) (refuses 2 0 (omega arith) (omega arith))) (λ u. rw (t, u) (updates 0 0)))
+  answer-cases (insert m) =
+      by-cases (markOutside m)
+      (λ t. rw t (refuses 5 0 (omega arith) (omega arith)))
+      (λ t. by-cases (has m (s .plain))
+      (λ u. rw (t, u) (refuses 8 0 (omega arith) (omega arith)))
+      (λ u. by-cases (eqb (length (s .plain)) (s .capacity))
+      (λ v. rw (t, u, v) (refuses 7 0 (omega arith) (omega arith)))
+      (λ v. rw (t, u, v) (updates _ _))))
+  answer-cases (strike m) =
+      by-cases (markOutside m)
+      (λ t. rw t (refuses 5 0 (omega arith) (omega arith)))
+      (λ t. by-cases (has m (s .plain)) (λ u. rw (t, u) (updates _ _)) (λ u. rw (t, u) (refuses 9 0 (omega arith) (omega arith))))
+  answer-cases (count b) = by-cases (boxCrossed b) (λ t. rw t (refuses 6 0 (omega arith) (omega arith))) (λ t. rw t (counts b))
+  answer-cases (list b first second) =
+      let k = length (filterBy (holds b) (s .plain)) in
+      by-cases (boxCrossed b)
+      (λ t. rw t (refuses 6 0 (omega arith) (omega arith)))
+      (λ t. by-cases (ltb first (3 * k) || ltb second (3 * k))
+      (λ u. rw (t, u) (refuses 10 k (omega arith) (omega arith)))
+      (λ u. rw (t, u) (lists b (whichList k))))
+  answer-cases check = updates (length (s .plain)) 0
+
+-- document 01's bound for two folds, at a plain list of n marks
+abbrev pub visitBound : ℕ → ℕ
+visitBound n = (4 * D n + 1) * (2 * D n + 1)
+
+-- what holds of each step of a run: the state that it leaves, its number, and its visits: none for an update, for a count at most the bound, for a
+-- list 2k more
+pub record StepRight (c : Call) (s : State) : Type 0 where
+  pub leaves : Right (next c s)
+  pub not-3 : answer c s .number ≢ 3
+  pub not-4 : answer c s .number ≢ 4
+  pub visits : answer c s .visits ≤ visitBound (length (s .plain)) + 2 * length (answer c s .listed)
+
+-- P holds of each step of a run
+abbrev pub Along : (Call → State → Type 0) → List Call → State → Type 0
+Along P [] s = Unit {0}
+Along P (c ∷ cs) s = P c s × Along P cs (next c s)
+
+answer-number : (c : Call) (s : State) → (answer c s .number ≢ 3) × (answer c s .number ≢ 4)
+answer-number c s =
+    answer-cases (λ a. (a .number ≢ 3) × (a .number ≢ 4)) s (λ n k p q. (p, q)) (λ n w. omega arith) (λ b. omega arith) (λ b w. omega arith) c
+
+answer-visits : (c : Call) (s : State) → Right s → answer c s .visits ≤ visitBound (length (s .plain)) + 2 * length (answer c s .listed)
+answer-visits c s r =
+    answer-cases (λ a. a .visits ≤ visitBound (length (s .plain)) + 2 * length (a .listed)) s
+    (λ n k p q. omega arith)
+    (λ n w. omega arith)
+    (λ b. omega (arith, count-visits b (s .tree) (s .plain) (r .agrees)))
+    (λ b w. omega (
+      arith,
+      count-visits b (s .tree) (s .plain) (r .agrees),
+      list-visits b (s .tree) (s .plain) (r .agrees),
+      filterBy-length (holds b) (s .plain),
+    ))
+    c
+
+step-right : (c : Call) (s : State) → Right s → StepRight c s
+step-right c s r = record {
+  leaves = next-right c s r;
+  not-3 = answer-number c s .0;
+  not-4 = answer-number c s .1;
+  visits = answer-visits c s r;
+}
+
+steps-right : (cs : List Call) (s : State) → Right s → Along StepRight cs s
+steps-right [] s r = tt
+steps-right (c ∷ cs) s r = (step-right c s r, steps-right cs (next c s) (next-right c s r))
+
+-- the run's first call visits nothing, whatever the state it finds
+open-visits : (c lent : ℕ) (s : State) → answer (openFor c lent) s .visits ≡ 0
+unfolding openTable
+open-visits c lent s =
+    by-cases (capacityOutside c) (λ t. rw t) (λ t. by-cases (ltb lent (W c)) (λ u. rw (t, u)) (λ u. rw (t, u)))
+
+-- every run
+pub run-right : (s : State) (c lent : ℕ) (cs : List Call) → answer (openFor c lent) s .number ≡ 0 → Along StepRight (openFor c lent ∷ cs) s
+run-right s c lent cs e = (
+  record {
+    leaves = open-right c lent s e;
+    not-3 = answer-number (openFor c lent) s .0;
+    not-4 = answer-number (openFor c lent) s .1;
+    visits = omega (arith, open-visits c lent s);
+  },
+  steps-right cs (next (openFor c lent) s) (open-right c lent s e),
+)

@@ -1,0 +1,1 @@
+// Pure definitions (specs/) and laws (proofs/); no code.
