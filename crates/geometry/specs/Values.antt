@@ -1,0 +1,39 @@
+-- What the crate's values mean: the model's mark, box and keys, and document 01's number for each case of an answer. Assumes nothing.
+use mathlib.Core.Bool.{Bool}
+use mathlib.Core.List.{[], _∷_}
+use Rattle.model.specs.Axis.{lexicographic}
+use Rattle.model.specs.Sheet
+use Rattle.model.specs.Refusals.{Outcome, accepted, refused}
+use Rattle.geometry.specs.declared.Mark.{Mark}
+use Rattle.geometry.specs.declared.Box.{Box}
+use Rattle.geometry.specs.declared.Key.{Key}
+use Rattle.geometry.specs.declared.NewMark.{NewMark}
+use Rattle.geometry.specs.declared.NewMark.the-variants as newMark
+use Rattle.geometry.specs.declared.NewBox.{NewBox}
+use Rattle.geometry.specs.declared.NewBox.the-variants as newBox
+
+abbrev pub markValue : Mark → Sheet.Mark
+markValue m = record { x = m .x; y = m .y; tag = m .tag }
+
+abbrev pub boxValue : Box → Sheet.Box
+boxValue b = record { x1 = b .x1; x2 = b .x2; y1 = b .y1; y2 = b .y2 }
+
+-- the key of each of the two orders, and the order of keys
+abbrev pub keyX : Mark → Key
+keyX m = record { major = m .x; minor = m .y; tag = m .tag }
+
+abbrev pub keyY : Mark → Key
+keyY m = record { major = m .y; minor = m .x; tag = m .tag }
+
+unfoldable pub keyBelow : Key → Key → Bool
+keyBelow = lexicographic ((λ k. k .major) ∷ (λ k. k .minor) ∷ (λ k. k .tag) ∷ [])
+
+-- "insert, strike: the mark: 5"
+abbrev pub markOutcome : NewMark → Outcome Sheet.Mark
+markOutcome (newMark.Valid m) = accepted (markValue m)
+markOutcome newMark.Outside = refused 5
+
+-- "count, list: the box: 6"
+abbrev pub boxOutcome : NewBox → Outcome Sheet.Box
+boxOutcome (newBox.Valid b) = accepted (boxValue b)
+boxOutcome newBox.Crossed = refused 6

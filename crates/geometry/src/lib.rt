@@ -1,0 +1,196 @@
+// Marks and boxes on a sheet (document 01, "Marks, boxes, tables"), by value.
+ghost use mathlib.Core.Path.{_≡_};
+ghost use Rattle.model.specs.Axis.{cellInside, cellClear};
+ghost use Rattle.model.specs.Sheet.{belowX, belowY, same, holds, alongX, alongY};
+ghost use Rattle.model.specs.Refusals.{enterMark, enterBox};
+ghost use Rattle.geometry.specs.Values.{
+  markValue,
+  boxValue,
+  keyBelow,
+  keyX,
+  keyY,
+  markOutcome,
+  boxOutcome,
+};
+
+// A flaw of the sheet: its place in hundredths of a millimetre, and a tag.
+pub struct Mark {
+    pub x: u32,
+    pub y: u32,
+    pub tag: u32,
+}
+
+pub enum NewMark {
+    Valid(Mark),
+    Outside,
+}
+
+// What an order compares: the first coordinate, then the second, then the tag.
+pub struct Key {
+    pub major: u32,
+    pub minor: u32,
+    pub tag: u32,
+}
+
+impl Key {
+    // The one place where two places are compared.
+    pub fn below(self, other: Key) -> bool
+        ensures { λ r. ⌜ r ≡ keyBelow self other ⌝ }
+    {
+        if self.major < other.major {
+            return true;
+        }
+        if other.major < self.major {
+            return false;
+        }
+        if self.minor < other.minor {
+            return true;
+        }
+        if other.minor < self.minor {
+            return false;
+        }
+        self.tag < other.tag
+    }
+}
+
+impl Mark {
+    // The largest coordinate.
+    pub const MAX: u32 = 999999;
+
+    pub fn new(x: u32, y: u32, tag: u32) -> NewMark
+        ensures { λ r. ⌜ markOutcome r ≡ enterMark (record { x = x; y = y; tag = tag }) ⌝ }
+    {
+        if Self::MAX < x {
+            return NewMark::Outside;
+        }
+        if Self::MAX < y {
+            return NewMark::Outside;
+        }
+        NewMark::Valid(Mark { x, y, tag })
+    }
+
+    pub fn by_x(self) -> Key
+        ensures { λ r. ⌜ r ≡ keyX self ⌝ }
+    {
+        Key {
+            major: self.x,
+            minor: self.y,
+            tag: self.tag,
+        }
+    }
+
+    pub fn by_y(self) -> Key
+        ensures { λ r. ⌜ r ≡ keyY self ⌝ }
+    {
+        Key {
+            major: self.y,
+            minor: self.x,
+            tag: self.tag,
+        }
+    }
+
+    // By x, y, tag: the order of the main tree and of a list.
+    pub fn below_x(self, other: Mark) -> bool
+        ensures { λ r. ⌜ r ≡ belowX (markValue self) (markValue other) ⌝ }
+    {
+        self.by_x().below(other.by_x())
+    }
+
+    // By y, x, tag: the order of an auxiliary tree.
+    pub fn below_y(self, other: Mark) -> bool
+        ensures { λ r. ⌜ r ≡ belowY (markValue self) (markValue other) ⌝ }
+    {
+        self.by_y().below(other.by_y())
+    }
+
+    pub fn same(self, other: Mark) -> bool
+        ensures { λ r. ⌜ r ≡ same (markValue self) (markValue other) ⌝ }
+    {
+        if self.x == other.x {
+            if self.y == other.y {
+                return self.tag == other.tag;
+            }
+        }
+        false
+    }
+}
+
+// A pane: both sides with their ends.
+pub struct Box {
+    pub x1: u32,
+    pub x2: u32,
+    pub y1: u32,
+    pub y2: u32,
+}
+
+pub enum NewBox {
+    Valid(Box),
+    Crossed,
+}
+
+impl Box {
+    pub fn new(x1: u32, x2: u32, y1: u32, y2: u32) -> NewBox
+        ensures { λ r. ⌜ boxOutcome r ≡ enterBox (record { x1 = x1; x2 = x2; y1 = y1; y2 = y2 }) ⌝ }
+    {
+        if x2 < x1 {
+            return NewBox::Crossed;
+        }
+        if y2 < y1 {
+            return NewBox::Crossed;
+        }
+        NewBox::Valid(Box { x1, x2, y1, y2 })
+    }
+
+    pub fn holds(self, m: Mark) -> bool
+        ensures { λ r. ⌜ r ≡ holds (boxValue self) (markValue m) ⌝ }
+    {
+        if m.x < self.x1 {
+            return false;
+        }
+        if self.x2 < m.x {
+            return false;
+        }
+        if m.y < self.y1 {
+            return false;
+        }
+        m.y <= self.y2
+    }
+
+    // A cell from least to greatest lies inside the box's side along x.
+    pub fn inside_x(self, least: u32, greatest: u32) -> bool
+        ensures { λ r. ⌜ r ≡ cellInside alongX (boxValue self) least greatest ⌝ }
+    {
+        if least < self.x1 {
+            return false;
+        }
+        greatest <= self.x2
+    }
+
+    // It is clear of that side.
+    pub fn clear_x(self, least: u32, greatest: u32) -> bool
+        ensures { λ r. ⌜ r ≡ cellClear alongX (boxValue self) least greatest ⌝ }
+    {
+        if greatest < self.x1 {
+            return true;
+        }
+        self.x2 < least
+    }
+
+    pub fn inside_y(self, least: u32, greatest: u32) -> bool
+        ensures { λ r. ⌜ r ≡ cellInside alongY (boxValue self) least greatest ⌝ }
+    {
+        if least < self.y1 {
+            return false;
+        }
+        greatest <= self.y2
+    }
+
+    pub fn clear_y(self, least: u32, greatest: u32) -> bool
+        ensures { λ r. ⌜ r ≡ cellClear alongY (boxValue self) least greatest ⌝ }
+    {
+        if greatest < self.y1 {
+            return true;
+        }
+        self.y2 < least
+    }
+}
