@@ -1,0 +1,64 @@
+-- The sizes on every word: in range D(C) and W(C), which fit a word, and past it what the contracts say. Assumes nothing.
+use Prim.Native.Nat.{ℕ, _+_, _*_, _≤_, _<_, min}
+use mathlib.Core.Path.{_≡_, refl, sym, ap, _∙_}
+use mathlib.Core.Logic.{_≢_}
+use native.Mathlib.Omega.{arith}
+use native.Mathlib.Nat.{mul-le-mul}
+use lib.Dec.{eqb, ltb}
+use borrow.Author.Tests.{ne-eqb, lt-ltb, le-ltb}
+use Rattle.model.specs.Sizes.{D, W, largestCapacity, capacityOutside}
+use Rattle.model.specs.Refusals.{accepted, refused, openTable}
+use Rattle.model.proofs.Logic.{by-cases, or-true-right}
+use Rattle.model.proofs.Sizes.{D-rises}
+use Rattle.sizes.specs.Sizes.{levelsFor, wordsFor}
+use Rattle.sizes.proofs.Thresholds.{level-largest}
+
+pub levelsFor-within : (c : ℕ) → c ≤ largestCapacity → levelsFor c ≡ D c
+levelsFor-within c h = ap D (omega arith)
+
+pub levelsFor-past : (c : ℕ) → largestCapacity < c → levelsFor c ≡ 38
+levelsFor-past c h = let e : min c largestCapacity ≡ largestCapacity = omega arith in ap D e ∙ level-largest
+
+pub levelsFor-most : (c : ℕ) → levelsFor c ≤ 38
+levelsFor-most c = omega (arith, D-rises (min c largestCapacity) largestCapacity (omega arith), level-largest)
+
+-- no product of a capacity and a level's words overflows
+pub words-fit : (c d : ℕ) → c ≤ largestCapacity → d ≤ 38 → c * (32 + 16 * d) ≤ 41943040
+words-fit c d h k = let g : 32 + 16 * d ≤ 640 = omega arith in mul-le-mul h g
+
+-- the two ways out of range
+pub wordsFor-none : wordsFor 0 ≡ 0
+unfolding capacityOutside
+wordsFor-none = refl
+
+pub wordsFor-past : (c : ℕ) → largestCapacity < c → wordsFor c ≡ 0
+unfolding capacityOutside
+wordsFor-past c h = rw (or-true-right (eqb c 0) (ltb largestCapacity c) (lt-ltb largestCapacity c h))
+
+pub wordsFor-within : (c : ℕ) → c ≢ 0 → c ≤ largestCapacity → wordsFor c ≡ W c
+unfolding capacityOutside
+wordsFor-within c h k = rw (ne-eqb c 0 h, le-ltb largestCapacity c k)
+
+pub W-levels : (c : ℕ) → c ≤ largestCapacity → W c ≡ 64 + c * (32 + 16 * levelsFor c)
+unfolding W
+W-levels c h = ap (λ d. 64 + c * (32 + 16 * d)) (sym (levelsFor-within c h))
+
+-- opening by the words that the capacity needs, none where it is out of range
+module _ (c lent : ℕ) where
+  W-some : W c ≢ 0
+  unfolding W
+  W-some = omega arith
+
+  pub openTable-capacity : wordsFor c ≡ 0 → openTable c lent ≡ refused 1
+  unfolding openTable
+  openTable-capacity e = by-cases (capacityOutside c) (λ t. rw t) (λ f. absurd (W-some (rw f at e)))
+
+  pub openTable-short : wordsFor c ≢ 0 → lent < wordsFor c → openTable c lent ≡ refused 2
+  unfolding openTable
+  openTable-short z h =
+      by-cases (capacityOutside c) (λ t. absurd (z (rw t))) (λ f. rw (f, lt-ltb lent (W c) (rw f at h)))
+
+  pub openTable-fits : wordsFor c ≢ 0 → wordsFor c ≤ lent → openTable c lent ≡ accepted (wordsFor c)
+  unfolding openTable
+  openTable-fits z h =
+      by-cases (capacityOutside c) (λ t. absurd (z (rw t))) (λ f. rw (f, le-ltb lent (W c) (rw f at h)))
