@@ -210,3 +210,7 @@ module _ {M B I : Type 0} (S : Space M B) (E : SamenessLaws S) (A : Axis M B) (O
   pub fold-sound : (o : Option (Tree M I)) (l : List M) → fold-laws .Represents o l → Sound o l
   unfolding fold-laws
   fold-sound o l h = h
+
+  pub fold-represents : (o : Option (Tree M I)) (l : List M) → Sound o l → fold-laws .Represents o l
+  unfolding fold-laws
+  fold-represents o l h = h

@@ -18,7 +18,7 @@ use Rattle.model.proofs.Lists.{sameBag-length, none-pass, insertSorted-
 use Rattle.model.proofs.Sorted.{distinct-cons, sorted-distinct, insertSorted-sorted, removeFirst-sorted, sort-sorted, sorted-unique, filterBy-sorted}
 use Rattle.model.proofs.Orders.{sheet-sameness, same-sound, alongX-laws, alongY-laws}
 use Rattle.model.proofs.Tree.{rebalance-marks, insert-marks, strike-marks}
-use Rattle.model.proofs.Fold.{settledWith, foldBound, innermost-laws, fold-laws, fold-sound, Sound}
+use Rattle.model.proofs.Fold.{settledWith, foldBound, innermost-laws, fold-laws, fold-sound, fold-represents, Sound}
 
 -- the main tree's search begins with no side settled
 abbrev pub unsettled : Box → Mark → Bool
@@ -55,14 +55,18 @@ pub main-sound : (o : Main) (l : List Mark) → main-laws .Represents o l → Ma
 unfolding main-laws
 main-sound = fold-sound sheet sheet-sameness alongX alongX-laws auxiliary unsettled (foldBound (λ n. 0)) auxiliary-laws
 
--- the tree o beside the plain list l
+pub main-represents : (o : Main) (l : List Mark) → MainSound o l → main-laws .Represents o l
+unfolding main-laws
+main-represents = fold-represents sheet sheet-sameness alongX alongX-laws auxiliary unsettled (foldBound (λ n. 0)) auxiliary-laws
+
+-- the tree o beside the plain list l: exactly its marks, in order, and sound
 pub record Agrees (o : Main) (l : List Mark) : Type 0 where
   pub list : marksOf o ≡ l
   pub sorted : Sorted alongX l
-  pub represents : main-laws .Represents o l
+  pub sound : MainSound o l
 
 pub open-agrees : Agrees none []
-open-agrees = record { list = refl; sorted = sorted[]; represents = main-laws .build [] (λ m. omega arith) }
+open-agrees = record { list = refl; sorted = sorted[]; sound = main-sound none [] (main-laws .build [] (λ m. omega arith)) }
 
 rebalanced-marks : (o : Main) → marksOf (rebalanceFold alongX auxiliary o) ≡ marksOf o
 rebalanced-marks none = refl
@@ -83,16 +87,19 @@ pub insert-agrees : (m : Mark) (o : Main) (l : List Mark) → countIf (same m) l
 insert-agrees m o l z a = record {
   list = main-insert-marks m o (rw (a .list) (a .sorted)) ∙ ap (insertSorted belowX m) (a .list);
   sorted = insertSorted-sorted sheet-sameness alongX-laws m (none-pass (same m) l z) (a .sorted);
-  represents =
-      main-laws .alike (main .insert m o) (m ∷ l) (insertSorted belowX m l) (λ p. sym (insertSorted-countIf belowX p m l))
-      (main-laws .insert m o l (distinct-cons sheet-sameness m l z (sorted-distinct sheet-sameness alongX-laws (a .sorted))) (a .represents));
+  sound =
+      main-sound (main .insert m o) (insertSorted belowX m l)
+      (main-laws .alike (main .insert m o) (m ∷ l) (insertSorted belowX m l) (λ p. sym (insertSorted-countIf belowX p m l))
+      (main-laws .insert m o l (distinct-cons sheet-sameness m l z (sorted-distinct sheet-sameness alongX-laws (a .sorted))) (main-represents o l (a .sound))));
 }
 
 pub strike-agrees : (m : Mark) (o : Main) (l : List Mark) → 0 < countIf (same m) l → Agrees o l → Agrees (main .strike m o) (removeFirst (same m) l)
 strike-agrees m o l h a = record {
   list = main-strike-marks m o (rw (a .list) (a .sorted)) (rw (a .list) h) ∙ ap (removeFirst (same m)) (a .list);
   sorted = removeFirst-sorted (same m) (a .sorted);
-  represents = main-laws .strike m o l (sorted-distinct sheet-sameness alongX-laws (a .sorted)) h (a .represents);
+  sound =
+      main-sound (main .strike m o) (removeFirst (same m) l)
+      (main-laws .strike m o l (sorted-distinct sheet-sameness alongX-laws (a .sorted)) h (main-represents o l (a .sound)));
 }
 
 all-unsettled : (b : Box) (l : List Mark) → All (λ m. unsettled b m ≡ true) l
@@ -101,13 +108,13 @@ all-unsettled b (m ∷ l) = cons refl (all-unsettled b l)
 
 module _ (b : Box) (o : Main) (l : List Mark) (a : Agrees o l) where
   pub count-agrees : main .count b o .found ≡ countIf (holds b) l
-  count-agrees = main-laws .count b o l (a .represents) (all-unsettled b l)
+  count-agrees = main-laws .count b o l (main-represents o l (a .sound)) (all-unsettled b l)
 
   pub count-visits : main .count b o .visits ≤ (4 * D (length l) + 1) * (2 * D (length l) + 1)
-  count-visits = omega (arith, main-laws .visits b o l (a .represents))
+  count-visits = omega (arith, main-laws .visits b o l (main-represents o l (a .sound)))
 
   list-bag : SameBag (main .list b o .marks) (filterBy (holds b) l)
-  list-bag = main-laws .list b o l (a .represents) (all-unsettled b l)
+  list-bag = main-laws .list b o l (main-represents o l (a .sound)) (all-unsettled b l)
 
   pub list-agrees : sort belowX (main .list b o .marks) ≡ filterBy (holds b) l
   list-agrees =
@@ -122,7 +129,7 @@ module _ (b : Box) (o : Main) (l : List Mark) (a : Agrees o l) where
   list-visits =
       omega (
         arith,
-        main-laws .listVisits b o l (a .represents),
+        main-laws .listVisits b o l (main-represents o l (a .sound)),
         sameBag-length (main .list b o .marks) (filterBy (holds b) l) list-bag,
         filterBy-length (holds b) l,
       )

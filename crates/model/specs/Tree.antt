@@ -82,7 +82,8 @@ module _ {M B I : Type 0} (A : Axis M B) (R : Register M B I) where
   insertLeaf m (node i l r) =
       if A .below m (least r) then node (R .insert m i) (insertLeaf m l) r else node (R .insert m i) l (insertLeaf m r)
 
-  -- "Strike: remove the leaf; its sibling takes the parent's place. Striking a lone leaf leaves no tree."
+  -- "Strike: remove the leaf; its sibling takes the parent's place. Striking a lone leaf leaves no tree." The way down leads to the mark's own leaf
+  -- where the tree has the mark, and only such marks are struck (proofs/Tree, strike-marks).
   abbrev pub strikeLeaf : M → Tree M I → Option (Tree M I)
   strikeLeaf m (leaf q) = none
   strikeLeaf m (node i l r) =

@@ -1,26 +1,35 @@
 -- The sizes on every word: in range D(C) and W(C), which fit a word, and past it what the contracts say. Assumes nothing.
-use Prim.Native.Nat.{ℕ, _+_, _*_, _≤_, _<_, min}
+use Prim.Native.Nat.{ℕ, suc, _+_, _*_, _≤_, _<_, min}
 use mathlib.Core.Path.{_≡_, refl, sym, ap, _∙_}
 use mathlib.Core.Logic.{_≢_}
 use native.Mathlib.Omega.{arith}
 use native.Mathlib.Nat.{mul-le-mul}
 use lib.Dec.{eqb, ltb}
+use lib.ListN.{getD}
 use borrow.Author.Tests.{ne-eqb, lt-ltb, le-ltb}
 use Rattle.model.specs.Sizes.{D, W, largestCapacity, capacityOutside}
 use Rattle.model.specs.Refusals.{accepted, refused, openTable}
 use Rattle.model.proofs.Logic.{by-cases, or-true-right}
 use Rattle.model.proofs.Sizes.{D-rises}
 use Rattle.sizes.specs.Sizes.{levelsFor, wordsFor}
-use Rattle.sizes.proofs.Thresholds.{level-largest}
+use Rattle.sizes.proofs.Thresholds.{least, level, level-none}
 
 pub levelsFor-within : (c : ℕ) → c ≤ largestCapacity → levelsFor c ≡ D c
 levelsFor-within c h = ap D (omega arith)
 
-pub levelsFor-past : (c : ℕ) → largestCapacity < c → levelsFor c ≡ 38
-levelsFor-past c h = let e : min c largestCapacity ≡ largestCapacity = omega arith in ap D e ∙ level-largest
+-- the rule of the thresholds, for `levels`
+pub levelsFor-none : (c : ℕ) → c < 2 → levelsFor c ≡ 0
+levelsFor-none c h = level-none (min c largestCapacity) (omega arith)
+
+pub levelsFor-level : (d c : ℕ) → d < 38 → getD least d 0 ≤ c → c < getD least (suc d) 0 → c < 55934 → levelsFor c ≡ d
+levelsFor-level d c h p q r = levelsFor-within c (omega arith) ∙ level d c (omega arith) p q
+
+pub levelsFor-last : (c : ℕ) → 55934 ≤ c → levelsFor c ≡ 38
+levelsFor-last c h = level 38 (min c largestCapacity) (omega arith) (omega arith) (omega arith)
 
 pub levelsFor-most : (c : ℕ) → levelsFor c ≤ 38
-levelsFor-most c = omega (arith, D-rises (min c largestCapacity) largestCapacity (omega arith), level-largest)
+levelsFor-most c =
+    omega (arith, D-rises (min c largestCapacity) largestCapacity (omega arith), level 38 largestCapacity (omega arith) (omega arith) (omega arith))
 
 -- no product of a capacity and a level's words overflows
 pub words-fit : (c d : ℕ) → c ≤ largestCapacity → d ≤ 38 → c * (32 + 16 * d) ≤ 41943040

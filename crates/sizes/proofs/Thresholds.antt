@@ -63,6 +63,3 @@ level d c h p q = D-between c d (reaches d c (omega arith) p) (falls-short (suc 
 pub level-none : (c : ℕ) → c < 2 → D c ≡ 0
 level-none zero h = D-zero
 level-none (suc c) h = level 0 (suc c) (omega arith) (omega arith) h
-
-pub level-largest : D 65536 ≡ 38
-level-largest = level 38 65536 (omega arith) (omega arith) (omega arith)
