@@ -19,7 +19,7 @@ use Rattle.model.specs.Laws.{SameBag, SamenessLaws, Distinct, AxisLaws, 
 use Rattle.model.proofs.Lists.{all-left, all-right, all-both, all-map, all-alike, countIf-append, countIf-all, countIf-none, sameBag-length, filterBy-all, filterBy-none, filterBy-append, filterBy-alike, insertSorted-countIf, sort-countIf, removeFirst-alike}
 use Rattle.model.proofs.Sorted.{distinct-head, sorted-left, sorted-right, sorted-distinct, sort-sorted}
 use Rattle.model.proofs.Sizes.{D-rises}
-use Rattle.model.proofs.Tree.{weight-marks, build-marks, build-balanced, rebalance-marks, rebalance-balanced, insert-marks, strike-marks, insert-sorted, strike-sorted}
+use Rattle.model.proofs.Tree.{weight-pos, weight-marks, nodes, nodes-weight, build-marks, build-balanced, rebalance-marks, rebalance-balanced, insert-marks, strike-marks, insert-sorted, strike-sorted}
 use Rattle.model.proofs.Depth.{balanced-depth}
 use Rattle.model.proofs.Search.{inside-onSide, clear-none, arrive-cases, Cheap, search-visits}
 use Rattle.model.proofs.Carried.{Carried, CarriedOf, build-carried, insert-carried, strike-carried, rebalance-carried}
@@ -46,6 +46,18 @@ innermost-laws S settled h = record {
   listVisits = λ b i l e. omega arith;
   boundRises = λ m n e. omega arith;
 }
+
+-- Where a tree's nodes carry innermost registers, as an auxiliary's do, these give what document 01 says of the node: a count "adds the weight", and a
+-- listing walks every node beneath, one visit each.
+module _ {M B : Type 0} (S : Space M B) (E : SamenessLaws S) (A : Axis M B) (O : AxisLaws S A) (settled : B → M → Bool)
+    (h : (b : B) (m : M) → settled b m ≡ true → S .holds b m ≡ true) (b : B) (i : List M) (l r : Tree M (List M))
+    (c : Carried S E A O (innermost S) settled (λ n. 0) (innermost-laws S settled h) (node i l r)) where
+  pub innermost-count : innermost S .count b i .found ≡ weight (node i l r)
+  unfolding innermost-laws
+  innermost-count = sameBag-length i (marks l ++ marks r) (c .0) ∙ sym (weight-marks (node i l r))
+
+  pub innermost-listVisits : innermost S .list b i .visits + 1 ≡ nodes (node i l r)
+  innermost-listVisits = omega (arith, innermost-count, nodes-weight (node i l r), weight-pos l, weight-pos r)
 
 abbrev pub BalancedOf : {M I : Type 0} → Option (Tree M I) → Type 0
 BalancedOf none = Unit {0}
