@@ -13,8 +13,8 @@ use Rattle.model.specs.Tree.{Tree, leaf, node, marks, marksOf, least, ev
 use Rattle.model.specs.Laws.{SamenessLaws, Distinct, AxisLaws, Sorted, RegisterLaws}
 use Rattle.model.proofs.Logic.{by-cases}
 use Rattle.model.proofs.Lists.{all-map, countIf-append, countIf-none, insertSorted-countIf, removeFirst-left, removeFirst-right}
-use Rattle.model.proofs.Sorted.{apart′, distinct-cons, distinct-left, distinct-right, sorted-left, sorted-right, sorted-distinct}
-use Rattle.model.proofs.Tree.{build-induction, rebalance-marks, insert-marks, strike-marks, above, beneath, marks-pos}
+use Rattle.model.proofs.Sorted.{below-apart, distinct-cons, distinct-left, distinct-right, sorted-left, sorted-right, sorted-distinct}
+use Rattle.model.proofs.Tree.{build-induction, rebalance-marks, insert-marks, strike-marks, all-above, left-all-below, marks-pos}
 
 module _ {M B I : Type 0} (S : Space M B) (E : SamenessLaws S) (A : Axis M B) (O : AxisLaws S A) (R : Register M B I) (settled : B → M → Bool) (bound : ℕ → ℕ)
     (L : RegisterLaws S R settled bound) where
@@ -85,7 +85,7 @@ module _ {M B I : Type 0} (S : Space M B) (E : SamenessLaws S) (A : Axis M B) (O
       let i′ = L .strike m i (marks l ++ marks r) (sorted-distinct E O s) h (c .0) in
       by-cases (A .below m (least r))
       (λ t.
-      let z = countIf-none (S .same m) (all-map (λ q g. O .apart m q g) (above S E A O m r t sr)) in
+      let z = countIf-none (S .same m) (all-map (λ q g. O .apart m q g) (all-above S E A O m r t sr)) in
       let h′ : 0 < countIf (S .same m) (marks l) = omega arith in
       rw t
       (withLeft-carried (R .strike m i) (strikeLeaf A R m l) r
@@ -93,7 +93,7 @@ module _ {M B I : Type 0} (S : Space M B) (E : SamenessLaws S) (A : Axis M B) (O
       (strike-carried m l sl h′ (c .1))
       (c .2)))
       (λ f.
-      let g = all-map (λ q g. apart′ E O q m g) (beneath S E A O m l r f s) in
+      let g = all-map (λ q g. below-apart E O q m g) (left-all-below S E A O m l r f s) in
       let z = countIf-none (S .same m) g in
       let h′ : 0 < countIf (S .same m) (marks r) = omega arith in
       rw f

@@ -64,11 +64,11 @@ module _ {M B : Type 0} {S : Space M B} (E : SamenessLaws S) where
 
 -- the laws of an order, as the proofs use them
 module _ {M B : Type 0} {S : Space M B} {A : Axis M B} (E : SamenessLaws S) (O : AxisLaws S A) where
-  pub asym : (a b : M) → A .below a b ≡ true → A .below b a ≡ false
-  asym a b e = by-cases (A .below b a) (λ t. clash (E .self a) (O .apart a a (O .trans a b a e t))) (λ f. f)
+  pub below-asym : (a b : M) → A .below a b ≡ true → A .below b a ≡ false
+  below-asym a b e = by-cases (A .below b a) (λ t. clash (E .self a) (O .apart a a (O .trans a b a e t))) (λ f. f)
 
-  pub apart′ : (a b : M) → A .below a b ≡ true → S .same b a ≡ false
-  apart′ a b e = by-cases (S .same b a) (λ t. clash (same-sym E b a t) (O .apart a b e)) (λ f. f)
+  pub below-apart : (a b : M) → A .below a b ≡ true → S .same b a ≡ false
+  below-apart a b e = by-cases (S .same b a) (λ t. clash (same-sym E b a t) (O .apart a b e)) (λ f. f)
 
   pub insertSorted-sorted : (m : M) {l : List M} → All (λ q. S .same m q ≡ false) l → Sorted A l → Sorted A (insertSorted (A .below) m l)
   insertSorted-sorted m nil s = sorted∷ nil sorted[]
@@ -94,28 +94,28 @@ module _ {M B : Type 0} {S : Space M B} {A : Axis M B} (E : SamenessLaws S) (O :
 
   -- an ordered list is known by its marks, where a test tells whether two marks are one
   module _ (eq : M → M → Bool) (eq-self : (a : M) → eq a a ≡ true) (eq-sound : (a b : M) → eq a b ≡ true → a ≡ b) where
-    pub is-in : {P : M → Type 0} {l : List M} → All P l → (q : M) → 0 < countIf (eq q) l → P q
-    is-in nil q k = absurd (omega arith)
-    is-in {P} (cons {m = m} p h) q k =
+    pub all-member : {P : M → Type 0} {l : List M} → All P l → (q : M) → 0 < countIf (eq q) l → P q
+    all-member nil q k = absurd (omega arith)
+    all-member {P} (cons {m = m} p h) q k =
         by-cases (eq q m)
         (λ e. subst P (sym (eq-sound q m e)) p)
-        (λ e. is-in h q (rw (e, zero-add) at k))
+        (λ e. all-member h q (rw (e, zero-add) at k))
 
-    heads : (a c : M) (l k : List M) → Sorted A (a ∷ l) → Sorted A (c ∷ k) → SameBag (a ∷ l) (c ∷ k) → a ≡ c
-    heads a c l k (sorted∷ h s) (sorted∷ g t) e =
+    sorted-heads : (a c : M) (l k : List M) → Sorted A (a ∷ l) → Sorted A (c ∷ k) → SameBag (a ∷ l) (c ∷ k) → a ≡ c
+    sorted-heads a c l k (sorted∷ h s) (sorted∷ g t) e =
         by-cases (eq a c)
         (λ u. eq-sound a c u)
         (λ u. by-cases (eq c a)
         (λ v. sym (eq-sound c a v))
         (λ v.
-        let ca : A .below c a ≡ true = is-in g a (let z = (rw (eq-self a, u) at (e (eq a))) in omega arith) in
-        let ac : A .below a c ≡ true = is-in h c (let z = (rw (eq-self c, v) at (e (eq c))) in omega arith) in
-        clash ca (asym a c ac)))
+        let ca : A .below c a ≡ true = all-member g a (let z = (rw (eq-self a, u) at (e (eq a))) in omega arith) in
+        let ac : A .below a c ≡ true = all-member h c (let z = (rw (eq-self c, v) at (e (eq c))) in omega arith) in
+        clash ca (below-asym a c ac)))
 
     pub sorted-unique : {l k : List M} → Sorted A l → Sorted A k → SameBag l k → l ≡ k
     sorted-unique sorted[] sorted[] e = refl
     sorted-unique sorted[] (sorted∷ {m = c} {l = k} h s) e = absurd (omega (arith, sameBag-length [] (c ∷ k) e))
     sorted-unique (sorted∷ {m = c} {l = k} h s) sorted[] e = absurd (omega (arith, sameBag-length (c ∷ k) [] e))
     sorted-unique (sorted∷ {m = a} {l = l} h s) (sorted∷ {m = c} {l = k} g t) e =
-        let q = heads a c l k (sorted∷ h s) (sorted∷ g t) e in
+        let q = sorted-heads a c l k (sorted∷ h s) (sorted∷ g t) e in
         ap₂ _∷_ q (sorted-unique s t (λ p. let z = (rw q at (e p)) in omega arith))

@@ -16,7 +16,7 @@ use Rattle.model.specs.Tree.{Tree, leaf, node, weight, marks, marksOf, l
 use Rattle.model.specs.Laws.{SamenessLaws, AxisLaws, All, cons, Sorted, sorted∷}
 use Rattle.model.proofs.Logic.{by-cases, and-left, and-right}
 use Rattle.model.proofs.Lists.{all-left, all-right, all-map, countIf-append, countIf-none, none-pass, insertSorted-left, insertSorted-right, removeFirst-left, removeFirst-right}
-use Rattle.model.proofs.Sorted.{sorted-left, sorted-right, sorted-across, asym, apart′, insertSorted-sorted, removeFirst-sorted}
+use Rattle.model.proofs.Sorted.{sorted-left, sorted-right, sorted-across, below-asym, below-apart, insertSorted-sorted, removeFirst-sorted}
 
 module _ {M I : Type 0} where
   pub weight-pos : (t : Tree M I) → 0 < weight t
@@ -47,9 +47,9 @@ module _ {M I : Type 0} where
   all-greatest (leaf m) (cons p h) = p
   all-greatest (node i l r) h = all-greatest r (all-right (marks l) (marks r) h)
 
-  pub first : (t : Tree M I) → (k : List M) × (marks t ≡ least t ∷ k)
-  first (leaf m) = ([], refl)
-  first (node i l r) = (first l .0 ++ marks r, ap (λ z. z ++ marks r) (first l .1))
+  pub marks-least : (t : Tree M I) → (k : List M) × (marks t ≡ least t ∷ k)
+  marks-least (leaf m) = ([], refl)
+  marks-least (node i l r) = (marks-least l .0 ++ marks r, ap (λ z. z ++ marks r) (marks-least l .1))
 
   pub evenly-true : (l r : Tree M I) → evenly l r ≡ true → (weight l + weight r ≤ 4 * weight l) × (weight l + weight r ≤ 4 * weight r)
   evenly-true l r e =
@@ -144,17 +144,17 @@ module _ {M B I : Type 0} (A : Axis M B) (R : Register M B I) where
       (λ f. rw f (build-balanced (least l) (marks l ++ marks r) (marks-pos (node i l r))))
 
 -- a mark goes to its place
-above-run : {M B : Type 0} (S : Space M B) (A : Axis M B) (O : AxisLaws S A) (m a : M) (k : List M) → A .below m a ≡ true → Sorted A (a ∷ k) → All (λ q. A .below m q ≡ true) (a ∷ k)
-above-run S A O m a k e (sorted∷ h s) = cons e (all-map (λ q g. O .trans m a q e g) h)
+run-all-above : {M B : Type 0} (S : Space M B) (A : Axis M B) (O : AxisLaws S A) (m a : M) (k : List M) → A .below m a ≡ true → Sorted A (a ∷ k) → All (λ q. A .below m q ≡ true) (a ∷ k)
+run-all-above S A O m a k e (sorted∷ h s) = cons e (all-map (λ q g. O .trans m a q e g) h)
 
 module _ {M B I : Type 0} (S : Space M B) (E : SamenessLaws S) (A : Axis M B) (O : AxisLaws S A) where
   -- all beneath a node whose least is above m are above m
-  pub above : (m : M) (t : Tree M I) → A .below m (least t) ≡ true → Sorted A (marks t) → All (λ q. A .below m q ≡ true) (marks t)
-  above m t e s = rw (first t .1) (above-run S A O m (least t) (first t .0) e (rw (first t .1) at s))
+  pub all-above : (m : M) (t : Tree M I) → A .below m (least t) ≡ true → Sorted A (marks t) → All (λ q. A .below m q ≡ true) (marks t)
+  all-above m t e s = rw (marks-least t .1) (run-all-above S A O m (least t) (marks-least t .0) e (rw (marks-least t .1) at s))
 
   -- all beneath the left child are below a mark that is not below the right child's least
-  pub beneath : (m : M) (l r : Tree M I) → A .below m (least r) ≡ false → Sorted A (marks l ++ marks r) → All (λ q. A .below q m ≡ true) (marks l)
-  beneath m l r f s = all-map (λ q h. O .linear q (least r) m (all-least r h) f) (sorted-across (marks l) (marks r) s)
+  pub left-all-below : (m : M) (l r : Tree M I) → A .below m (least r) ≡ false → Sorted A (marks l ++ marks r) → All (λ q. A .below q m ≡ true) (marks l)
+  left-all-below m l r f s = all-map (λ q h. O .linear q (least r) m (all-least r h) f) (sorted-across (marks l) (marks r) s)
 
   module _ (R : Register M B I) where
     pub insert-marks : (m : M) (t : Tree M I) → Sorted A (marks t) → marks (insertLeaf A R m t) ≡ insertSorted (A .below) m (marks t)
@@ -163,10 +163,10 @@ module _ {M B I : Type 0} (S : Space M B) (E : SamenessLaws S) (A : Axis M B) (O
         by-cases (A .below m (least r))
         (λ t. rw t
         (ap (λ z. z ++ marks r) (insert-marks m l (sorted-left (marks l) (marks r) s))
-        ∙ sym (rw (first r .1) (insertSorted-left (A .below) m (marks l) (first r .0) t))))
+        ∙ sym (rw (marks-least r .1) (insertSorted-left (A .below) m (marks l) (marks-least r .0) t))))
         (λ f. rw f
         (ap (λ z. marks l ++ z) (insert-marks m r (sorted-right (marks l) (marks r) s))
-        ∙ sym (insertSorted-right (A .below) m (marks r) (all-map (λ q h. asym E O q m h) (beneath m l r f s)))))
+        ∙ sym (insertSorted-right (A .below) m (marks r) (all-map (λ q h. below-asym E O q m h) (left-all-below m l r f s)))))
 
     pub strike-marks : (m : M) (t : Tree M I) → Sorted A (marks t) → 0 < countIf (S .same m) (marks t) → marksOf (strikeLeaf A R m t) ≡ removeFirst (S .same m) (marks t)
     strike-marks m (leaf q) s h =
@@ -174,14 +174,14 @@ module _ {M B I : Type 0} (S : Space M B) (E : SamenessLaws S) (A : Axis M B) (O
     strike-marks m (node i l r) s h =
         by-cases (A .below m (least r))
         (λ t.
-        let z = countIf-none (S .same m) (all-map (λ q g. O .apart m q g) (above m r t (sorted-right (marks l) (marks r) s))) in
+        let z = countIf-none (S .same m) (all-map (λ q g. O .apart m q g) (all-above m r t (sorted-right (marks l) (marks r) s))) in
         let h′ : 0 < countIf (S .same m) (marks l) = omega (arith, countIf-append (S .same m) (marks l) (marks r)) in
         rw t
         (withLeft-marks _ (strikeLeaf A R m l) r
         ∙ ap (λ k. k ++ marks r) (strike-marks m l (sorted-left (marks l) (marks r) s) h′)
         ∙ sym (removeFirst-left (S .same m) (marks l) (marks r) h′)))
         (λ f.
-        let g = all-map (λ q g. apart′ E O q m g) (beneath m l r f s) in
+        let g = all-map (λ q g. below-apart E O q m g) (left-all-below m l r f s) in
         let z = countIf-none (S .same m) g in
         let h′ : 0 < countIf (S .same m) (marks r) = omega (arith, countIf-append (S .same m) (marks l) (marks r)) in
         rw f
