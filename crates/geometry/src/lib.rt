@@ -69,7 +69,7 @@ impl Mark {
         NewMark::Valid(Mark { x, y, tag })
     }
 
-    pub fn by_x(self) -> Key
+    fn by_x(self) -> Key
         ensures { λ r. ⌜ r ≡ keyX self ⌝ }
     {
         Key {
@@ -79,7 +79,7 @@ impl Mark {
         }
     }
 
-    pub fn by_y(self) -> Key
+    fn by_y(self) -> Key
         ensures { λ r. ⌜ r ≡ keyY self ⌝ }
     {
         Key {

@@ -1,5 +1,5 @@
 -- The sizes on every word: in range D(C) and W(C), which fit a word, and past it what the contracts say. Assumes nothing.
-use Prim.Native.Nat.{ℕ, suc, _+_, _*_, _≤_, _<_, min}
+use Prim.Native.Nat.{ℕ, suc, _+_, _*_, _^_, _≤_, _<_, min}
 use mathlib.Core.Path.{_≡_, refl, sym, ap, _∙_}
 use mathlib.Core.Logic.{_≢_}
 use native.Mathlib.Omega.{arith}
@@ -31,9 +31,12 @@ pub levelsFor-most : (c : ℕ) → levelsFor c ≤ 38
 levelsFor-most c =
     omega (arith, D-rises (min c largestCapacity) largestCapacity (omega arith), level 38 largestCapacity (omega arith) (omega arith) (omega arith))
 
--- no product of a capacity and a level's words overflows
-pub words-fit : (c d : ℕ) → c ≤ largestCapacity → d ≤ 38 → c * (32 + 16 * d) ≤ 41943040
-words-fit c d h k = let g : 32 + 16 * d ≤ 640 = omega arith in mul-le-mul h g
+-- no product of a word and a level's words overflows
+pub words-fit : (c d : ℕ) → c < 2 ^ 32 → d ≤ 38 → c * (32 + 16 * d) ≤ 2 ^ 32 * 640
+words-fit c d h k =
+    let g : 32 + 16 * d ≤ 640 = omega arith in
+    let f : c ≤ 2 ^ 32 = omega arith in
+    mul-le-mul f g
 
 -- the two ways out of range
 pub wordsFor-none : wordsFor 0 ≡ 0

@@ -12,7 +12,7 @@ returns : tie.Need-returns
 returns c = sym (ap wordsFor (c .if1 .taken) ∙ wordsFor-none)
 
 returns-2 : tie.Need-returns-2
-returns-2 c = sym (wordsFor-past _ (c .if2 .taken))
+returns-2 c = sym (wordsFor-past (c .before .before .args .capacity) (omega arith))
 
 levels-requires : tie.Need-levels-requires
 levels-requires c κs = search needs

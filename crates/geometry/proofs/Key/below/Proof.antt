@@ -6,16 +6,16 @@ use Rattle.geometry.proofs.Key.below.Statement.{statement}
 use Rattle.geometry.proofs.Key.below.Tie as tie
 
 returns : tie.Need-returns
-returns c = sym (major-lt _ _ (c .if1 .taken))
+returns c = sym (major-lt _ _ (omega arith))
 
 returns-2 : tie.Need-returns-2
-returns-2 c = sym (major-gt _ _ (c .if2 .taken))
+returns-2 c = sym (major-gt _ _ (omega arith))
 
 returns-3 : tie.Need-returns-3
-returns-3 c = sym (minor-lt _ _ (omega arith) (c .if3 .taken))
+returns-3 c = sym (minor-lt _ _ (omega arith) (omega arith))
 
 returns-4 : tie.Need-returns-4
-returns-4 c = sym (minor-gt _ _ (omega arith) (c .if4 .taken))
+returns-4 c = sym (minor-gt _ _ (omega arith) (omega arith))
 
 returns-5 : tie.Need-returns-5
 returns-5 c = sym (minor-eq _ _ (omega arith) (omega arith))
