@@ -3,29 +3,25 @@
 use Prim.Native.Nat.{ℕ, _+_, _*_, _≤_}
 use mathlib.Core.Path.{_≡_}
 use mathlib.Core.Logic.{_≢_}
-use mathlib.Core.Bool.{true, _||_}
+use mathlib.Core.Bool.{_||_}
 use mathlib.Core.List.{List, [], _∷_}
 use native.Mathlib.Omega.{arith}
 use lib.Dec.{ltb, eqb}
 use lib.ListN.{length}
 use borrow.Author.Tests.{ltb-true, ltb-false, eqb-false}
-use Rattle.model.specs.Lists.{countIf, filterBy, insertSorted}
+use Rattle.model.specs.Lists.{countIf, filterBy}
 use Rattle.model.specs.Sizes.{D, W, capacityOutside}
-use Rattle.model.specs.Sheet.{Mark, Box, belowX, same, holds, markOutside, boxCrossed, main}
+use Rattle.model.specs.Sheet.{Box, belowX, same, holds, markOutside, boxCrossed, main}
 use Rattle.model.specs.Refusals.{openTable, enterMark, enterBox}
 use Rattle.model.specs.History.{Call, openFor, insert, strike, count, list, check, State, Answer, refusal, updated, counted, listedIn, has, whichList, answer, next}
 use Rattle.model.proofs.Logic.{by-cases}
-use Rattle.model.proofs.Lists.{countIf-true, insertSorted-countIf, removeFirst-length, filterBy-length}
+use Rattle.model.proofs.Lists.{insertSorted-length, removeFirst-length, filterBy-length}
 use Rattle.model.proofs.TwoFold.{Agrees, open-agrees, insert-agrees, strike-agrees, count-visits, list-visits}
 
 -- a state as a run leaves it
 pub record Right (s : State) : Type 0 where
   pub agrees : Agrees (s .tree) (s .plain)
   pub fits : length (s .plain) ≤ s .capacity
-
-insertSorted-length : (m : Mark) (l : List Mark) → length (insertSorted belowX m l) ≡ length l + 1
-insertSorted-length m l =
-    omega (arith, countIf-true (insertSorted belowX m l), insertSorted-countIf belowX (λ q. true) m l, countIf-true l)
 
 -- an accepted open makes any state right
 pub open-right : (c lent : ℕ) (s : State) → answer (openFor c lent) s .number ≡ 0 → Right (next (openFor c lent) s)
@@ -47,7 +43,7 @@ next-right (insert m) s r =
     (λ v. rw (t, u, v) r)
     (λ v. rw (t, u, v) (record {
       agrees = insert-agrees m (s .tree) (s .plain) (omega (arith, ltb-false 0 (countIf (same m) (s .plain)) u)) (r .agrees);
-      fits = omega (arith, insertSorted-length m (s .plain), eqb-false (length (s .plain)) (s .capacity) v, r .fits);
+      fits = omega (arith, insertSorted-length belowX m (s .plain), eqb-false (length (s .plain)) (s .capacity) v, r .fits);
     }))))
 next-right (strike m) s r =
     by-cases (markOutside m)

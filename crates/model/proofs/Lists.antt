@@ -118,6 +118,10 @@ module _ {M : Type 0} where
   insertSorted-countIf below p m [] = refl
   insertSorted-countIf below p m (q ∷ l) = by-cases (below m q) (λ t. rw t) (λ f. rw f (omega (arith, insertSorted-countIf below p m l)))
 
+  pub insertSorted-length : (below : M → M → Bool) (m : M) (l : List M) → length (insertSorted below m l) ≡ length l + 1
+  insertSorted-length below m l =
+      omega (arith, countIf-true (insertSorted below m l), insertSorted-countIf below (λ q. true) m l, countIf-true l)
+
   pub sort-countIf : (below : M → M → Bool) (p : M → Bool) (l : List M) → countIf p (sort below l) ≡ countIf p l
   sort-countIf below p [] = refl
   sort-countIf below p (m ∷ l) = omega (arith, insertSorted-countIf below p m (sort below l), sort-countIf below p l)

@@ -90,7 +90,7 @@ module _ {M B I : Type 0} (A : Axis M B) (R : Register M B I) where
       some (if A .below m (least r) then withLeft (R .strike m i) (strikeLeaf m l) r else withRight (R .strike m i) l (strikeLeaf m r))
 
   -- "Then the unbalanced node nearest the root, if any, is built afresh, with its own auxiliary and all those beneath it": each unbalanced node that
-  -- has none above it. After an update there is at most one (proofs/Rebalance).
+  -- has none above it. After an update there is at most one, and it is the one nearest the root (proofs/Rebalance, insert-nearest, strike-nearest).
   abbrev pub rebalance : Tree M I → Tree M I
   rebalance (leaf m) = leaf m
   rebalance (node i l r) = if evenly l r then node i (rebalance l) (rebalance r) else build (least l) (marks l ++ marks r)
