@@ -20,21 +20,22 @@ pub struct Mark {
     pub tag: u32,
 }
 
+// A mark of three words, or document 01's refusal 5.
 pub enum NewMark {
     Valid(Mark),
     Outside,
 }
 
 // What an order compares: the first coordinate, then the second, then the tag.
-pub struct Key {
-    pub major: u32,
-    pub minor: u32,
-    pub tag: u32,
+struct Key {
+    major: u32,
+    minor: u32,
+    tag: u32,
 }
 
 impl Key {
-    // The one place where two places are compared.
-    pub fn below(self, other: Key) -> bool
+    // For both orders: no other function compares two places.
+    fn below(self, other: Key) -> bool
         ensures { λ r. ⌜ r ≡ keyBelow self other ⌝ }
     {
         if self.major < other.major {
@@ -123,6 +124,7 @@ pub struct Box {
     pub y2: u32,
 }
 
+// A box of four words, or document 01's refusal 6.
 pub enum NewBox {
     Valid(Box),
     Crossed,
@@ -166,7 +168,7 @@ impl Box {
         greatest <= self.x2
     }
 
-    // It is clear of that side.
+    // A cell lies clear of that side.
     pub fn clear_x(self, least: u32, greatest: u32) -> bool
         ensures { λ r. ⌜ r ≡ cellClear alongX (boxValue self) least greatest ⌝ }
     {

@@ -1,4 +1,4 @@
--- The sizes on every word: in range D(C) and W(C), which fit a word, and past it what the contracts say. Assumes nothing.
+-- The sizes on every word: D(C) and W(C) in range, what the contracts say out of it, and that no product overflows. Assumes nothing.
 use Prim.Native.Nat.{ℕ, suc, _+_, _*_, _^_, _≤_, _<_, min}
 use mathlib.Core.Path.{_≡_, refl, sym, ap, _∙_}
 use mathlib.Core.Logic.{_≢_}
@@ -21,10 +21,10 @@ levelsFor-within c h = ap D (omega arith)
 pub levelsFor-none : (c : ℕ) → c < 2 → levelsFor c ≡ 0
 levelsFor-none c h = level-none (min c largestCapacity) (omega arith)
 
-pub levelsFor-level : (d c : ℕ) → d < 38 → getD least d 0 ≤ c → c < getD least (suc d) 0 → c < 55934 → levelsFor c ≡ d
+pub levelsFor-level : (d c : ℕ) → d < 38 → getD least d 0 ≤ c → c < getD least (suc d) 0 → c < getD least 38 0 → levelsFor c ≡ d
 levelsFor-level d c h p q r = levelsFor-within c (omega arith) ∙ level d c (omega arith) p q
 
-pub levelsFor-last : (c : ℕ) → 55934 ≤ c → levelsFor c ≡ 38
+pub levelsFor-last : (c : ℕ) → getD least 38 0 ≤ c → levelsFor c ≡ 38
 levelsFor-last c h = level 38 (min c largestCapacity) (omega arith) (omega arith) (omega arith)
 
 pub levelsFor-most : (c : ℕ) → levelsFor c ≤ 38
