@@ -1,0 +1,5 @@
+pub mod Stores
+pub mod Tallies
+pub mod Frames
+pub mod Held
+pub mod Levels

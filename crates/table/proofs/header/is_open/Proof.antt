@@ -1,0 +1,17 @@
+use borrow.Author.Needs.{needs}
+use Rattle.table.proofs.header.is_open.Statement.{statement}
+use Rattle.table.proofs.header.is_open.Tie as tie
+use Rattle.table.proofs.header.is_open.Reads as reads
+use Rattle.table.proofs.header.is_open.Lts as lts
+use Rattle.table.proofs.words.word.Reads as word-reads
+
+-- src/header.rt:12:5
+word-requires : tie.Need-word-requires
+word-requires c κs = search needs
+
+-- src/header.rt:9:1
+returns : tie.Need-returns
+returns c = rw (← c .word .ensures)
+
+pub is-open-spec : {M : Type 1} → statement M
+is-open-spec = tie.close (tie.spec word-requires returns)

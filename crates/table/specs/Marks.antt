@@ -1,0 +1,18 @@
+-- Marks in words: x, y, tag. Where the three words are not all there, the mark reads as zeros and nothing is written. Assumes nothing.
+use Prim.Native.Nat.{ℕ, _+_}
+use mathlib.Core.List.{List, [], _∷_}
+use lib.Dec.{leb}
+use lib.ListN.{length, getD}
+use lib.Seq.{sets}
+use Rattle.model.specs.Lists.{if_then_else_}
+use Rattle.model.specs.Sheet.{Mark, mark}
+use Rattle.table.specs.Layout.{slotPlace}
+
+unfoldable pub markAt : List ℕ → ℕ → Mark
+markAt xs at = if leb (at + 3) (length xs) then mark (getD xs at 0) (getD xs (at + 1) 0) (getD xs (at + 2) 0) else mark 0 0 0
+
+unfoldable pub slotMark : List ℕ → ℕ → Mark
+slotMark xs s = markAt xs (slotPlace s)
+
+unfoldable pub putMark : List ℕ → ℕ → Mark → List ℕ
+putMark xs at m = if leb (at + 3) (length xs) then sets xs at (m .x ∷ m .y ∷ m .tag ∷ []) else xs

@@ -1,0 +1,48 @@
+// The marks of slots and of lists.
+ghost use mathlib.Core.Path.{_≡_};
+ghost use Prim.Native.Nat.{_<_, _^_};
+ghost use Rattle.geometry.specs.Values.{markValue};
+ghost use Rattle.table.specs.Layout.{slotPlace, listPlace};
+ghost use Rattle.table.specs.Marks.{slotMark, putMark};
+use geometry::Mark;
+
+// The mark in slot s.
+pub fn mark_at(t: &[u32], s: u32) -> Mark
+    ensures { λ r. ⌜ markValue r ≡ slotMark (now (t .entry)) s ⌝ }
+{
+    let at = 64 + 16 * (s as usize);
+    if at + 3 <= t.len() {
+        Mark {
+            x: t[at],
+            y: t[at + 1],
+            tag: t[at + 2],
+        }
+    } else {
+        Mark { x: 0, y: 0, tag: 0 }
+    }
+}
+
+fn put_mark(t: &mut [u32], at: usize, m: Mark)
+    requires { ⌜ at < 2 ^ 40 ⌝ }
+    ensures { λ _. ⌜ now (t .exit) ≡ putMark (now (t .entry)) at (markValue m) ⌝ }
+{
+    if at + 3 <= t.len() {
+        t[at] = m.x;
+        t[at + 1] = m.y;
+        t[at + 2] = m.tag;
+    }
+}
+
+// Puts a mark into slot s.
+pub fn put_slot(t: &mut [u32], s: u32, m: Mark)
+    ensures { λ _. ⌜ now (t .exit) ≡ putMark (now (t .entry)) (slotPlace s) (markValue m) ⌝ }
+{
+    put_mark(t, 64 + 16 * (s as usize), m);
+}
+
+// Puts a mark at the place k of a list, three words a mark.
+pub fn put_listed(list: &mut [u32], k: u32, m: Mark)
+    ensures { λ _. ⌜ now (list .exit) ≡ putMark (now (list .entry)) (listPlace k) (markValue m) ⌝ }
+{
+    put_mark(list, 3 * (k as usize), m);
+}

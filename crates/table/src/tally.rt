@@ -1,0 +1,30 @@
+// What a search has come to so far, in one number: 2^32 times the marks found, and the visits.
+ghost use mathlib.Core.Path.{_≡_};
+ghost use Prim.Native.Nat.{_/_, _%_};
+ghost use lib.Dec.{leb};
+ghost use Rattle.table.specs.Tally.{visited, lost, mostVisits};
+
+// The tally of a search that met damage: more visits than any budget.
+pub const LOST: u64 = 4294967295;
+
+// The most visits of a count in a sound table: (4 D + 1) (2 D + 1) at D(65,536) = 38.
+pub const MOST: u32 = 11781;
+
+// One visit more, with w marks.
+pub fn visit(tally: u64, w: u32) -> u64
+    ensures { λ r. ⌜ r ≡ visited tally w ⌝ }
+{
+    std::num::wrapping_add_u64(tally, 4294967296 * (w as u64) + 1)
+}
+
+pub fn visits(tally: u64) -> u32
+    ensures { λ r. ⌜ r ≡ tally % 4294967296 ⌝ }
+{
+    (tally % 4294967296) as u32
+}
+
+pub fn found(tally: u64) -> u32
+    ensures { λ r. ⌜ r ≡ tally / 4294967296 ⌝ }
+{
+    (tally / 4294967296) as u32
+}
