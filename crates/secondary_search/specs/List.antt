@@ -1,0 +1,75 @@
+-- The mirror of the listing. Assumes nothing.
+use Prim.Native.Nat.{ℕ, zero, suc, _-_, _/_, _%_}
+use mathlib.Core.Path.{_≡_, refl}
+use mathlib.Core.List.{List}
+use native.Mathlib.Omega.{arith}
+use lib.Dec.{leb, eqb}
+use Rattle.model.specs.Lists.{if_then_else_}
+use Rattle.model.specs.Axis.{cellInside, cellClear}
+use Rattle.model.specs.Sheet.{Box, alongY}
+use Rattle.table.specs.Layout.{recordPlace, listPlace}
+use Rattle.table.specs.Marks.{slotMark, putMark}
+use Rattle.table.specs.Arms.{Arm, Record, recordAt}
+use Rattle.table.specs.Tally.{visited, lost}
+use Rattle.table.specs.After.{After, after}
+
+-- a walk from a node's number, a tally and the list so far
+abbrev pub Walk : Type 0
+Walk = ℕ → ℕ → List ℕ → After ℕ
+
+unfoldable pub walkLeaf : List ℕ → ℕ → ℕ → List ℕ → After ℕ
+walkLeaf xs s tally ys = after (visited tally 1) (putMark ys (listPlace (tally / 4294967296)) (slotMark xs s))
+
+unfoldable pub walkRecord : Walk → Record → ℕ → List ℕ → After ℕ
+walkRecord rec p tally ys =
+    let half : After ℕ = rec (p .left .node) (visited tally 0) ys in
+    rec (p .right .node) (half .out) (half .words)
+
+unfoldable pub walkNode : Walk → List ℕ → ℕ → ℕ → Walk
+walkNode rec xs base most n tally ys =
+    if leb most (tally % 4294967296) then after lost ys
+    else (if eqb (n % 2) 0 then walkLeaf xs (n / 2) tally ys else walkRecord rec (recordAt xs (recordPlace base (n / 2))) tally ys)
+
+unfoldable pub walk♯ : ℕ → List ℕ → ℕ → ℕ → Walk
+walk♯ zero xs base most n tally ys = after lost ys
+walk♯ (suc f) xs base most n tally ys = walkNode (walk♯ f xs base most) xs base most n tally ys
+
+pub walk♯-zero : (f : ℕ) → f ≡ 0 → (xs : List ℕ) (base most n tally : ℕ) (ys : List ℕ) → walk♯ f xs base most n tally ys ≡ after lost ys
+unfolding walk♯
+walk♯-zero f e xs base most n tally ys = rw e
+
+pub walk♯-suc : (f : ℕ) → (f ≡ 0 → ⊥) → (xs : List ℕ) (base most n tally : ℕ) (ys : List ℕ)
+    → walk♯ f xs base most n tally ys ≡ walkNode (walk♯ (f - 1) xs base most) xs base most n tally ys
+unfolding walk♯
+walk♯-suc zero h xs base most n tally ys = absurd (h refl)
+walk♯-suc (suc f) h xs base most n tally ys = let e : suc f - 1 ≡ f = omega arith in rw e
+
+-- a listing from an arm
+abbrev pub Listing : Type 0
+Listing = Arm → ℕ → List ℕ → After ℕ
+
+unfoldable pub listRecord : Listing → Record → ℕ → List ℕ → After ℕ
+listRecord rec p tally ys =
+    let half : After ℕ = rec (p .left) (visited tally 0) ys in
+    rec (p .right) (half .out) (half .words)
+
+unfoldable pub listNode : Walk → Listing → List ℕ → ℕ → Box → ℕ → Listing
+listNode all rec xs base b most a tally ys =
+    if leb most (tally % 4294967296) then after lost ys
+    else (if cellInside alongY b (a .least) (a .greatest) then all (a .node) tally ys
+    else (if cellClear alongY b (a .least) (a .greatest) then after (visited tally 0) ys
+    else listRecord rec (recordAt xs (recordPlace base (a .node / 2))) tally ys))
+
+unfoldable pub list♯ : ℕ → List ℕ → ℕ → Box → ℕ → Listing
+list♯ zero xs base b most a tally ys = after lost ys
+list♯ (suc f) xs base b most a tally ys = listNode (walk♯ (suc f) xs base most) (list♯ f xs base b most) xs base b most a tally ys
+
+pub list♯-zero : (f : ℕ) → f ≡ 0 → (xs : List ℕ) (base : ℕ) (b : Box) (most : ℕ) (a : Arm) (tally : ℕ) (ys : List ℕ) → list♯ f xs base b most a tally ys ≡ after lost ys
+unfolding list♯
+list♯-zero f e xs base b most a tally ys = rw e
+
+pub list♯-suc : (f : ℕ) → (f ≡ 0 → ⊥) → (xs : List ℕ) (base : ℕ) (b : Box) (most : ℕ) (a : Arm) (tally : ℕ) (ys : List ℕ)
+    → list♯ f xs base b most a tally ys ≡ listNode (walk♯ f xs base most) (list♯ (f - 1) xs base b most) xs base b most a tally ys
+unfolding list♯
+list♯-suc zero h xs base b most a tally ys = absurd (h refl)
+list♯-suc (suc f) h xs base b most a tally ys = let e : suc f - 1 ≡ f = omega arith in rw e
