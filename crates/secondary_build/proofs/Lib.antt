@@ -1,0 +1,4 @@
+-- What the mirrors of specs/ mean, along any axis and at any places of records: on words that hold a tree they collect its slots, build it and copy it.
+pub mod Collecting
+pub mod Building
+pub mod Copying
