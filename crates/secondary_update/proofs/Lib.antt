@@ -1,0 +1,4 @@
+pub mod Mending
+pub mod Joining
+pub mod Inserting
+pub mod Striking

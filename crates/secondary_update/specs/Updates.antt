@@ -1,0 +1,28 @@
+-- What an update gives: the tree's arm and the weight of the node built afresh, or 0; a strike also the least slot left, where the least was struck.
+-- Assumes nothing.
+use Prim.Native.Nat.{ℕ}
+use Rattle.table.specs.Arms.{Arm, noArm}
+
+pub record Update : Type 0 where
+  pub arm : Arm
+  pub rebuilt : ℕ
+
+abbrev pub update : Arm → ℕ → Update
+update a n = record { arm = a; rebuilt = n }
+
+abbrev pub noUpdate : Update
+noUpdate = update noArm 0
+
+pub record Strike : Type 0 where
+  pub arm : Arm
+  pub rebuilt : ℕ
+  pub first : ℕ
+
+abbrev pub strike : Arm → ℕ → ℕ → Strike
+strike a n s = record { arm = a; rebuilt = n; first = s }
+
+unfoldable pub strikeOf : Arm → ℕ → ℕ → Strike
+strikeOf a n s = strike a n s
+
+abbrev pub noStrike : Strike
+noStrike = strike noArm 0 0

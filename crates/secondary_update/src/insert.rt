@@ -1,0 +1,79 @@
+// Insertion.
+ghost use mathlib.Core.Path.{_≡_};
+ghost use Rattle.model.specs.Sheet.{alongY};
+ghost use Rattle.geometry.specs.Values.{markValue};
+ghost use Rattle.table.specs.After.{after};
+ghost use Rattle.table.specs.Layout.{recordPlace};
+ghost use Rattle.table.specs.Values.{secondaryArm};
+ghost use Rattle.secondary_update.specs.Insert.{split♯, insert♯};
+ghost use Rattle.secondary_update.specs.Updates.{noUpdate};
+ghost use Rattle.secondary_update.specs.Values.{updatedValue};
+use crate::node;
+use crate::node::Updated;
+use geometry::Mark;
+use table::secondary::SecondaryArm;
+use table::secondary::SecondaryRecord;
+
+fn damaged() -> Updated
+    ensures { λ u. ⌜ updatedValue u ≡ noUpdate ⌝ }
+{
+    let arm = SecondaryArm::none();
+    Updated { arm, rebuilt: 0 }
+}
+
+// Makes a node of a leaf and the mark m of slot s, the smaller left, named by the larger.
+pub fn split(t: &mut [u32], base: u32, q: SecondaryArm, m: Mark, s: u32) -> Updated
+    ensures { λ u. ⌜ after (updatedValue u) (now (t .exit)) ≡ split♯ alongY (recordPlace base) (markValue m) s (secondaryArm q) (now (t .entry)) ⌝ }
+{
+    let new = SecondaryArm::leaf(s, m.y);
+    let node = q.node;
+    let name = node.slot();
+    if m.below_y(table::slots::mark_at(t, name)) {
+        return node::join(t, base, name, new, q, false, 0);
+    }
+    node::join(t, base, s, q, new, false, 0)
+}
+
+// Inserts the mark m of slot s beneath an arm. Where `mends`, the unbalanced node nearest the root is built afresh, and so none below it.
+pub fn insert(
+    t: &mut [u32],
+    base: u32,
+    a: SecondaryArm,
+    m: Mark,
+    s: u32,
+    mends: bool,
+    fuel: u32,
+) -> Updated
+    ensures { λ u. ⌜ after (updatedValue u) (now (t .exit)) ≡ insert♯ alongY fuel (recordPlace base) (markValue m) s mends (secondaryArm a) (now (t .entry)) ⌝ }
+{
+    if fuel == 0 {
+        return damaged();
+    }
+    let node = a.node;
+    if node.is_leaf() {
+        return split(t, base, a, m, s);
+    }
+    let name = node.slot();
+    let p = SecondaryRecord::at(t, base, name);
+    let l = p.left;
+    let r = p.right;
+    if table::weights::disagree(l.weight, r.weight, a.weight) {
+        return damaged();
+    }
+    if m.below_y(table::slots::mark_at(t, name)) {
+        let even = table::weights::balanced(table::weights::sum(l.weight, 1), r.weight);
+        let u = insert(t, base, l, m, s, node::both(mends, even), fuel - 1);
+        let c = u.arm;
+        if c.weight == 0 {
+            return damaged();
+        }
+        return node::join(t, base, name, c, r, mends, u.rebuilt);
+    }
+    let even = table::weights::balanced(l.weight, table::weights::sum(r.weight, 1));
+    let u = insert(t, base, r, m, s, node::both(mends, even), fuel - 1);
+    let c = u.arm;
+    if c.weight == 0 {
+        return damaged();
+    }
+    node::join(t, base, name, l, c, mends, u.rebuilt)
+}
