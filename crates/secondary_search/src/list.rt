@@ -3,6 +3,7 @@ ghost use mathlib.Core.Path.{_≡_};
 ghost use Rattle.geometry.specs.Values.{boxValue};
 ghost use Rattle.table.specs.Values.{secondaryArm};
 ghost use Rattle.table.specs.After.{after};
+ghost use Rattle.table.specs.Layout.{deepest};
 ghost use Rattle.secondary_search.specs.List.{walk♯, list♯};
 use geometry::Box;
 use table::secondary::Secondary;
@@ -40,8 +41,7 @@ fn walk(
     walk(t, base, r.node, out, half, most, fuel - 1)
 }
 
-// Lists the marks of a tree on the box's side, at most `most` visits in all.
-pub fn list(
+fn list_beneath(
     t: &[u32],
     base: u32,
     b: Box,
@@ -70,6 +70,21 @@ pub fn list(
     let l = p.left;
     let r = p.right;
     let here = table::tally::visit(tally, 0);
-    let half = list(t, base, b, l, out, here, most, fuel - 1);
-    list(t, base, b, r, out, half, most, fuel - 1)
+    let half = list_beneath(t, base, b, l, out, here, most, fuel - 1);
+    list_beneath(t, base, b, r, out, half, most, fuel - 1)
+}
+
+// Lists the marks of a tree on the box's side, and adds the visits to a tally, at most `most` in all.
+pub fn list(
+    t: &[u32],
+    base: u32,
+    b: Box,
+    root: SecondaryArm,
+    out: &mut [u32],
+    tally: u64,
+    most: u32,
+) -> u64
+    ensures { λ r. ⌜ after r (now (out .exit)) ≡ list♯ deepest (now (t .entry)) base (boxValue b) most (secondaryArm root) tally (now (out .entry)) ⌝ }
+{
+    list_beneath(t, base, b, root, out, tally, most, table::runs::DEEPEST)
 }

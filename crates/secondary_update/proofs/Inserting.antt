@@ -13,7 +13,7 @@ use Rattle.model.specs.Axis.{Axis}
 use Rattle.model.specs.Register.{Register}
 use Rattle.model.specs.Sheet.{Mark, Box}
 use Rattle.model.specs.Slots.{slotAxis}
-use Rattle.model.specs.Tree.{Tree, leaf, node, weight, depth, marks, least, evenly, build, insertLeaf}
+use Rattle.model.specs.Tree.{Tree, leaf, node, weight, depth, least, evenly, build, insertLeaf}
 use Rattle.model.proofs.Logic.{by-cases}
 use Rattle.model.proofs.Tree.{weight-pos}
 use Rattle.table.specs.Layout.{capacityPlace}

@@ -2,3 +2,4 @@ pub mod Mending
 pub mod Joining
 pub mod Inserting
 pub mod Striking
+pub mod Auxiliaries

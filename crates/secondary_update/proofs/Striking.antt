@@ -11,7 +11,7 @@ use borrow.Author.Tests.{eq-eqb, ne-eqb, eqb-true, eqb-false}
 use Rattle.model.specs.Lists.{if_then_else_, indicator}
 use Rattle.model.specs.Axis.{Space, Axis}
 use Rattle.model.specs.Register.{Register}
-use Rattle.model.specs.Tree.{Tree, leaf, node, weight, depth, marks, least, evenly, build, withLeft, withRight, strikeLeaf}
+use Rattle.model.specs.Tree.{Tree, leaf, node, weight, depth, marks, least, evenly, withLeft, withRight, strikeLeaf}
 use Rattle.model.specs.Slots.{slotSpace, slotAxis}
 use Rattle.model.specs.Sheet.{Mark, Box}
 use Rattle.model.specs.Laws.{SamenessLaws, AxisLaws, Sorted}

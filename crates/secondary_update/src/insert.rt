@@ -1,9 +1,10 @@
 // Insertion.
 ghost use mathlib.Core.Path.{_≡_};
+ghost use mathlib.Core.Bool.{true};
 ghost use Rattle.model.specs.Sheet.{alongY};
 ghost use Rattle.geometry.specs.Values.{markValue};
 ghost use Rattle.table.specs.After.{after};
-ghost use Rattle.table.specs.Layout.{recordPlace};
+ghost use Rattle.table.specs.Layout.{recordPlace, deepest};
 ghost use Rattle.table.specs.Values.{secondaryArm};
 ghost use Rattle.secondary_update.specs.Insert.{split♯, insert♯};
 ghost use Rattle.secondary_update.specs.Updates.{noUpdate};
@@ -34,8 +35,8 @@ pub fn split(t: &mut [u32], base: u32, q: SecondaryArm, m: Mark, s: u32) -> Upda
     node::join(t, base, s, q, new, false, 0)
 }
 
-// Inserts the mark m of slot s beneath an arm. Where `mends`, the unbalanced node nearest the root is built afresh, and so none below it.
-pub fn insert(
+// Inserts the mark m of slot s beneath an arm. A node mends what is beneath it only where it stays balanced itself: else it is built afresh whole.
+fn insert_beneath(
     t: &mut [u32],
     base: u32,
     a: SecondaryArm,
@@ -62,7 +63,7 @@ pub fn insert(
     }
     if m.below_y(table::slots::mark_at(t, name)) {
         let even = table::weights::balanced(table::weights::sum(l.weight, 1), r.weight);
-        let u = insert(t, base, l, m, s, node::both(mends, even), fuel - 1);
+        let u = insert_beneath(t, base, l, m, s, node::both(mends, even), fuel - 1);
         let c = u.arm;
         if c.weight == 0 {
             return damaged();
@@ -70,10 +71,17 @@ pub fn insert(
         return node::join(t, base, name, c, r, mends, u.rebuilt);
     }
     let even = table::weights::balanced(l.weight, table::weights::sum(r.weight, 1));
-    let u = insert(t, base, r, m, s, node::both(mends, even), fuel - 1);
+    let u = insert_beneath(t, base, r, m, s, node::both(mends, even), fuel - 1);
     let c = u.arm;
     if c.weight == 0 {
         return damaged();
     }
     node::join(t, base, name, l, c, mends, u.rebuilt)
+}
+
+// Inserts the mark m of slot s, which stands in its slot, into the tree of an arm; the unbalanced node nearest the root is built afresh.
+pub fn insert(t: &mut [u32], base: u32, root: SecondaryArm, m: Mark, s: u32) -> Updated
+    ensures { λ u. ⌜ after (updatedValue u) (now (t .exit)) ≡ insert♯ alongY deepest (recordPlace base) (markValue m) s true (secondaryArm root) (now (t .entry)) ⌝ }
+{
+    insert_beneath(t, base, root, m, s, true, table::runs::DEEPEST)
 }

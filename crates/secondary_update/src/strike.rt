@@ -1,9 +1,10 @@
 // Strike.
 ghost use mathlib.Core.Path.{_≡_};
+ghost use mathlib.Core.Bool.{true};
 ghost use Rattle.model.specs.Sheet.{alongY};
 ghost use Rattle.geometry.specs.Values.{markValue};
 ghost use Rattle.table.specs.After.{after};
-ghost use Rattle.table.specs.Layout.{recordPlace};
+ghost use Rattle.table.specs.Layout.{recordPlace, deepest};
 ghost use Rattle.table.specs.Values.{secondaryArm};
 ghost use Rattle.secondary_update.specs.Strike.{renamed♯, strike♯};
 ghost use Rattle.secondary_update.specs.Updates.{strikeOf, noStrike};
@@ -51,8 +52,8 @@ pub fn renamed(name: u32, s: u32, first: u32) -> u32
     name
 }
 
-// Strikes the mark m of slot s beneath the arm of an inner node. Where `mends`, the unbalanced node nearest the root is built afresh.
-pub fn strike(
+// Strikes the mark m of slot s beneath the arm of an inner node, with mending as in an insertion.
+fn strike_beneath(
     t: &mut [u32],
     base: u32,
     a: SecondaryArm,
@@ -79,7 +80,7 @@ pub fn strike(
             return answer(r, 0, name);
         }
         let even = table::weights::balanced(table::weights::fewer(l.weight), r.weight);
-        let u = strike(t, base, l, m, s, node::both(mends, even), fuel - 1);
+        let u = strike_beneath(t, base, l, m, s, node::both(mends, even), fuel - 1);
         let c = u.arm;
         if c.weight == 0 {
             return damaged();
@@ -91,11 +92,18 @@ pub fn strike(
         return answer(l, 0, 0);
     }
     let even = table::weights::balanced(l.weight, table::weights::fewer(r.weight));
-    let u = strike(t, base, r, m, s, node::both(mends, even), fuel - 1);
+    let u = strike_beneath(t, base, r, m, s, node::both(mends, even), fuel - 1);
     let c = u.arm;
     if c.weight == 0 {
         return damaged();
     }
     let j = node::join(t, base, renamed(name, s, u.first), l, c, mends, u.rebuilt);
     answer(j.arm, j.rebuilt, 0)
+}
+
+// Strikes the mark m of slot s from the tree of an arm, which has two marks or more; the unbalanced node nearest the root is built afresh.
+pub fn strike(t: &mut [u32], base: u32, root: SecondaryArm, m: Mark, s: u32) -> Struck
+    ensures { λ u. ⌜ after (struckValue u) (now (t .exit)) ≡ strike♯ alongY deepest (recordPlace base) (markValue m) s true (secondaryArm root) (now (t .entry)) ⌝ }
+{
+    strike_beneath(t, base, root, m, s, true, table::runs::DEEPEST)
 }

@@ -1,15 +1,14 @@
 -- Trees that words hold, each slot once: kept by changes elsewhere, and made of two by the record of a node over them. For any axis and any places of
 -- records that form a region. Assumes nothing.
 use Prim.Native.Nat.{ℕ, zero, suc, _+_, _*_, _%_, _≤_, _<_}
-use mathlib.Core.Path.{_≡_, refl, sym, ap, ap₂, subst, _∙_}
-use mathlib.Core.Bool.{true, false}
+use mathlib.Core.Path.{_≡_, refl, sym, subst, _∙_}
 use mathlib.Core.List.{List, [], _∷_}
 use mathlib.Core.Logic.{_⊎_, inl, inr}
 use native.Mathlib.Omega.{arith}
 use lib.Dec.{eqb}
 use lib.ListN.{length}
 use borrow.Author.Tests.{eq-eqb, ne-eqb, eqb-true, eqb-false}
-use Rattle.model.specs.Lists.{countIf, indicator}
+use Rattle.model.specs.Lists.{countIf}
 use Rattle.model.specs.Axis.{Axis}
 use Rattle.model.specs.Sheet.{Mark, Box}
 use Rattle.model.specs.Tree.{Tree, leaf, node, weight, marks, least}
@@ -18,8 +17,8 @@ use Rattle.model.proofs.Lists.{countIf-append}
 use Rattle.model.proofs.Tree.{weight-marks}
 use Rattle.table.specs.Layout.{runPlace}
 use Rattle.table.specs.Marks.{slotMark}
-use Rattle.table.specs.Arms.{Arm, arm, arms, leafNumber, innerNumber, sum, leafArm, overArm, recordAt, putRecord}
-use Rattle.table.specs.Holds.{number, armOf, Holds}
+use Rattle.table.specs.Arms.{Arm, arm, leafNumber, innerNumber, sum, leafArm, overArm, putRecord}
+use Rattle.table.specs.Holds.{armOf, Holds}
 use Rattle.table.proofs.Frames.{Region, Frame, frame-run, frame-record, frame-mark, putRecord-frame, putRecord-same}
 
 -- how often a slot stands in a list, and in a tree

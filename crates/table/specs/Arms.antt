@@ -1,5 +1,5 @@
 -- Numbers of nodes, arms and records, of main and auxiliary trees alike (docs/LAYOUT.md, "Arms and records"). Assumes nothing.
-use Prim.Native.Nat.{ℕ, _+_, _*_, _%_, _^_}
+use Prim.Native.Nat.{ℕ, _+_, _*_, _%_}
 use mathlib.Core.List.{List, [], _∷_}
 use lib.Dec.{leb}
 use lib.ListN.{length, getD}

@@ -1,6 +1,6 @@
 // Nodes of the main tree (000's primary nodes): numbers, arms and records, and the arms of their auxiliary trees.
 ghost use mathlib.Core.Path.{_≡_};
-ghost use Prim.Native.Nat.{_/_, _%_, _<_, _^_};
+ghost use Prim.Native.Nat.{_/_, _%_};
 ghost use lib.Dec.{eqb};
 ghost use Rattle.table.specs.Layout.{mainPlace, auxiliaryPlace, rootPlace};
 ghost use Rattle.table.specs.Arms.{

@@ -1,8 +1,7 @@
 // What a search has come to so far, in one number: 2^32 times the marks found, and the visits.
 ghost use mathlib.Core.Path.{_≡_};
 ghost use Prim.Native.Nat.{_/_, _%_};
-ghost use lib.Dec.{leb};
-ghost use Rattle.table.specs.Tally.{visited, lost, mostVisits};
+ghost use Rattle.table.specs.Tally.{visited};
 
 // The tally of a search that met damage: more visits than any budget.
 pub const LOST: u64 = 4294967295;

@@ -5,11 +5,11 @@ use Rattle.secondary_update.proofs.insert.damaged.Reads as reads
 use Rattle.secondary_update.proofs.insert.damaged.Lts as lts
 use Rattle.table.proofs.secondary.SecondaryArm.none.Reads as none-reads
 
--- src/insert.rt:20:9
+-- src/insert.rt:21:9
 none-requires : tie.Need-none-requires
 none-requires c κs = search needs
 
--- src/insert.rt:17:1
+-- src/insert.rt:18:1
 returns : tie.Need-returns
 returns c = rw (← c .none .ensures)
 

@@ -5,7 +5,7 @@ use Rattle.secondary_update.proofs.strike.answer.Tie as tie
 use Rattle.secondary_update.proofs.strike.answer.Reads as reads
 use Rattle.secondary_update.proofs.strike.answer.Lts as lts
 
--- src/strike.rt:23:1
+-- src/strike.rt:24:1
 returns : tie.Need-returns
 unfolding strikeOf
 returns c = search needs
