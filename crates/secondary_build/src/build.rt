@@ -7,15 +7,18 @@ ghost use Rattle.table.specs.Layout.{recordPlace};
 ghost use Rattle.table.specs.Values.{secondaryArm};
 ghost use Rattle.secondary_build.specs.Build.{runLeaf, build♯, rebuild♯};
 use crate::collect;
+use table::header;
+use table::runs;
 use table::secondary::SecondaryArm;
 use table::secondary::SecondaryRecord;
+use table::slots;
 
 // The leaf of the slot at place i of run A.
 fn run_leaf(t: &[u32], capacity: u32, i: u32) -> SecondaryArm
     ensures { λ r. ⌜ secondaryArm r ≡ runLeaf alongY capacity i (now (t .entry)) ⌝ }
 {
-    let s = table::runs::run(t, capacity, i);
-    let m = table::slots::mark_at(t, s);
+    let s = runs::run(t, capacity, i);
+    let m = slots::mark_at(t, s);
     SecondaryArm::leaf(s, m.y)
 }
 
@@ -30,7 +33,7 @@ pub fn build(t: &mut [u32], base: u32, capacity: u32, i: u32, n: u32) -> Seconda
     let half = n / 2;
     let l = build(t, base, capacity, i, half);
     let r = build(t, base, capacity, i + half, n - half);
-    let name = table::runs::run(t, capacity, i + half);
+    let name = runs::run(t, capacity, i + half);
     SecondaryRecord::put(t, base, name, l, r);
     SecondaryArm::over(name, l, r)
 }
@@ -39,13 +42,13 @@ pub fn build(t: &mut [u32], base: u32, capacity: u32, i: u32, n: u32) -> Seconda
 pub fn rebuild(t: &mut [u32], base: u32, a: SecondaryArm) -> SecondaryArm
     ensures { λ r. ⌜ after (secondaryArm r) (now (t .exit)) ≡ rebuild♯ alongY (recordPlace base) (secondaryArm a) (now (t .entry)) ⌝ }
 {
-    let capacity = table::header::capacity(t);
+    let capacity = header::capacity(t);
     let w = a.weight;
     if capacity < w {
         return SecondaryArm::none();
     }
     let node = a.node;
-    let got = collect::collect(t, base, capacity, node, 0, w, table::runs::DEEPEST);
+    let got = collect::collect(t, base, capacity, node, 0, w, runs::DEEPEST);
     if got == w {
         return build(t, base, capacity, 0, w);
     }

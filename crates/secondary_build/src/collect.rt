@@ -3,6 +3,7 @@ ghost use mathlib.Core.Path.{_≡_};
 ghost use Rattle.table.specs.After.{after};
 ghost use Rattle.secondary_build.specs.Collect.{collect♯};
 ghost use Rattle.table.specs.Layout.{recordPlace};
+use table::runs;
 use table::secondary::Secondary;
 use table::secondary::SecondaryRecord;
 
@@ -29,7 +30,7 @@ pub fn collect(
     }
     let s = node.slot();
     if node.is_leaf() {
-        table::runs::put_run(t, capacity, taken, s);
+        runs::put_run(t, capacity, taken, s);
         return taken + 1;
     }
     let p = SecondaryRecord::at(t, base, s);

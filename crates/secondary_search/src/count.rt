@@ -4,12 +4,14 @@ ghost use Rattle.geometry.specs.Values.{boxValue};
 ghost use Rattle.table.specs.Values.{secondaryArm};
 ghost use Rattle.secondary_search.specs.Count.{opens♯, seen♯, search♯, count♯};
 use geometry::Box;
+use table::runs;
 use table::secondary::Secondary;
 use table::secondary::SecondaryArm;
 use table::secondary::SecondaryRecord;
+use table::tally;
 
 // Whether a cell is neither inside the box's side nor clear of it.
-pub fn opens(b: Box, a: SecondaryArm) -> bool
+fn opens(b: Box, a: SecondaryArm) -> bool
     ensures { λ r. ⌜ r ≡ opens♯ (boxValue b) (secondaryArm a) ⌝ }
 {
     if b.inside_y(a.least, a.greatest) {
@@ -23,9 +25,9 @@ fn seen(b: Box, a: SecondaryArm, tally: u64) -> u64
     ensures { λ r. ⌜ r ≡ seen♯ (boxValue b) (secondaryArm a) tally ⌝ }
 {
     if b.inside_y(a.least, a.greatest) {
-        return table::tally::visit(tally, a.weight);
+        return tally::visit(tally, a.weight);
     }
-    table::tally::visit(tally, 0)
+    tally::visit(tally, 0)
 }
 
 // Searches beneath a node that is to be opened. It goes on to the child that is to be opened; where both are, a call takes the left one.
@@ -37,8 +39,8 @@ fn search(t: &[u32], base: u32, b: Box, start: Secondary, from: u64, fuel: u32) 
     let mut left = fuel;
     while 0 < left {
         left -= 1;
-        if table::tally::MOST <= table::tally::visits(tally) {
-            return table::tally::LOST;
+        if tally::MOST <= tally::visits(tally) {
+            return tally::LOST;
         }
         let p = SecondaryRecord::at(t, base, node / 2);
         let l = p.left;
@@ -63,7 +65,7 @@ fn search(t: &[u32], base: u32, b: Box, start: Secondary, from: u64, fuel: u32) 
             }
         }
     }
-    table::tally::LOST
+    tally::LOST
 }
 
 // The marks of a tree on the box's side, and the visits, onto a tally.
@@ -73,7 +75,7 @@ pub fn count(t: &[u32], base: u32, b: Box, root: SecondaryArm, tally: u64) -> u6
     let here = seen(b, root, tally);
     if opens(b, root) {
         let node = root.node;
-        return search(t, base, b, node, here, table::runs::DEEPEST);
+        return search(t, base, b, node, here, runs::DEEPEST);
     }
     here
 }

@@ -6,9 +6,12 @@ ghost use Rattle.table.specs.After.{after};
 ghost use Rattle.table.specs.Layout.{deepest};
 ghost use Rattle.secondary_search.specs.List.{walk♯, list♯};
 use geometry::Box;
+use table::runs;
 use table::secondary::Secondary;
 use table::secondary::SecondaryArm;
 use table::secondary::SecondaryRecord;
+use table::slots;
+use table::tally;
 
 // Writes the marks of every leaf beneath a node, at most `most` visits in all. The marks found so far tell the place in the list.
 fn walk(
@@ -23,20 +26,20 @@ fn walk(
     ensures { λ r. ⌜ after r (now (out .exit)) ≡ walk♯ fuel (now (t .entry)) base most (node .0) tally (now (out .entry)) ⌝ }
 {
     if fuel == 0 {
-        return table::tally::LOST;
+        return tally::LOST;
     }
-    if most <= table::tally::visits(tally) {
-        return table::tally::LOST;
+    if most <= tally::visits(tally) {
+        return tally::LOST;
     }
     let s = node.slot();
     if node.is_leaf() {
-        table::slots::put_listed(out, table::tally::found(tally), table::slots::mark_at(t, s));
-        return table::tally::visit(tally, 1);
+        slots::put_listed(out, tally::found(tally), slots::mark_at(t, s));
+        return tally::visit(tally, 1);
     }
     let p = SecondaryRecord::at(t, base, s);
     let l = p.left;
     let r = p.right;
-    let here = table::tally::visit(tally, 0);
+    let here = tally::visit(tally, 0);
     let half = walk(t, base, l.node, out, here, most, fuel - 1);
     walk(t, base, r.node, out, half, most, fuel - 1)
 }
@@ -54,22 +57,22 @@ fn list_beneath(
     ensures { λ r. ⌜ after r (now (out .exit)) ≡ list♯ fuel (now (t .entry)) base (boxValue b) most (secondaryArm a) tally (now (out .entry)) ⌝ }
 {
     if fuel == 0 {
-        return table::tally::LOST;
+        return tally::LOST;
     }
-    if most <= table::tally::visits(tally) {
-        return table::tally::LOST;
+    if most <= tally::visits(tally) {
+        return tally::LOST;
     }
     let node = a.node;
     if b.inside_y(a.least, a.greatest) {
         return walk(t, base, node, out, tally, most, fuel);
     }
     if b.clear_y(a.least, a.greatest) {
-        return table::tally::visit(tally, 0);
+        return tally::visit(tally, 0);
     }
     let p = SecondaryRecord::at(t, base, node.slot());
     let l = p.left;
     let r = p.right;
-    let here = table::tally::visit(tally, 0);
+    let here = tally::visit(tally, 0);
     let half = list_beneath(t, base, b, l, out, here, most, fuel - 1);
     list_beneath(t, base, b, r, out, half, most, fuel - 1)
 }
@@ -86,5 +89,5 @@ pub fn list(
 ) -> u64
     ensures { λ r. ⌜ after r (now (out .exit)) ≡ list♯ deepest (now (t .entry)) base (boxValue b) most (secondaryArm root) tally (now (out .entry)) ⌝ }
 {
-    list_beneath(t, base, b, root, out, tally, most, table::runs::DEEPEST)
+    list_beneath(t, base, b, root, out, tally, most, runs::DEEPEST)
 }

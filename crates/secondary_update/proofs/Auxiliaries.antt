@@ -17,9 +17,9 @@ use Rattle.model.proofs.Orders.{sheet-sameness, alongY-laws}
 use Rattle.table.specs.Layout.{capacityPlace, recordPlace, deepest}
 use Rattle.table.specs.Marks.{slotMark}
 use Rattle.table.specs.Arms.{Arm}
-use Rattle.table.specs.Holds.{armOf}
+use Rattle.table.specs.Holds.{armOf, times, Held}
 use Rattle.table.proofs.Frames.{Region}
-use Rattle.table.proofs.Held.{times, Held, Leaves}
+use Rattle.table.proofs.Held.{Leaves}
 use Rattle.table.proofs.Levels.{held-shallow}
 use Rattle.secondary_update.specs.Insert.{insert♯}
 use Rattle.secondary_update.specs.Strike.{strike♯}

@@ -19,10 +19,10 @@ use Rattle.model.proofs.Tree.{weight-pos}
 use Rattle.table.specs.Layout.{capacityPlace}
 use Rattle.table.specs.Marks.{slotMark}
 use Rattle.table.specs.Arms.{Arm, arms, sum}
-use Rattle.table.specs.Holds.{armOf}
+use Rattle.table.specs.Holds.{armOf, times, Held}
 use Rattle.table.specs.After.{After}
 use Rattle.table.proofs.Frames.{Region}
-use Rattle.table.proofs.Held.{times, times-node, times-least, Held, held-weight, held-left, held-right, leafArm-of, Leaves}
+use Rattle.table.proofs.Held.{times-node, times-least, held-weight, held-left, held-right, leafArm-of, Leaves}
 use Rattle.secondary_update.specs.Updates.{Update}
 use Rattle.secondary_update.specs.Node.{join♯}
 use Rattle.secondary_update.specs.Insert.{split♯, Insertion, ifSound, insertLeft, insertRight, insertRecord, insertNode, insert♯}

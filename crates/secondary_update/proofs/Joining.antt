@@ -18,10 +18,10 @@ use Rattle.model.proofs.Tree.{weight-marks, marks-pos, marks-least, build-marks
 use Rattle.model.proofs.Rebalance.{rebalance-left, rebalance-right, rebuilt-left, rebuilt-right}
 use Rattle.table.specs.Layout.{capacityPlace, runPlace}
 use Rattle.table.specs.Arms.{Arm, overArm, putRecord}
-use Rattle.table.specs.Holds.{armOf}
+use Rattle.table.specs.Holds.{armOf, timesIn, times, Held}
 use Rattle.table.specs.After.{After}
 use Rattle.table.proofs.Frames.{Region, Frame, frame-trans, frame-weaken, frame-run, frame-header, putRecord-frame}
-use Rattle.table.proofs.Held.{timesIn, times, times-node, times-least, Held, held-weight, held-least, overArm-of, held-frame, node-held, Leaves}
+use Rattle.table.proofs.Held.{times-node, times-least, held-weight, held-least, overArm-of, held-frame, node-held, Leaves}
 use Rattle.secondary_build.proofs.Building.{rebuild-holds}
 use Rattle.secondary_update.specs.Updates.{Update}
 use Rattle.secondary_update.specs.Node.{afresh, join♯}

@@ -12,8 +12,11 @@ ghost use Rattle.secondary_update.specs.Values.{updatedValue};
 use crate::node;
 use crate::node::Updated;
 use geometry::Mark;
+use table::runs;
 use table::secondary::SecondaryArm;
 use table::secondary::SecondaryRecord;
+use table::slots;
+use table::weights;
 
 fn damaged() -> Updated
     ensures { λ u. ⌜ updatedValue u ≡ noUpdate ⌝ }
@@ -23,13 +26,13 @@ fn damaged() -> Updated
 }
 
 // Makes a node of a leaf and the mark m of slot s, the smaller left, named by the larger.
-pub fn split(t: &mut [u32], base: u32, q: SecondaryArm, m: Mark, s: u32) -> Updated
+fn split(t: &mut [u32], base: u32, q: SecondaryArm, m: Mark, s: u32) -> Updated
     ensures { λ u. ⌜ after (updatedValue u) (now (t .exit)) ≡ split♯ alongY (recordPlace base) (markValue m) s (secondaryArm q) (now (t .entry)) ⌝ }
 {
     let new = SecondaryArm::leaf(s, m.y);
     let node = q.node;
     let name = node.slot();
-    if m.below_y(table::slots::mark_at(t, name)) {
+    if m.below_y(slots::mark_at(t, name)) {
         return node::join(t, base, name, new, q, false, 0);
     }
     node::join(t, base, s, q, new, false, 0)
@@ -58,11 +61,11 @@ fn insert_beneath(
     let p = SecondaryRecord::at(t, base, name);
     let l = p.left;
     let r = p.right;
-    if table::weights::disagree(l.weight, r.weight, a.weight) {
+    if weights::disagree(l.weight, r.weight, a.weight) {
         return damaged();
     }
-    if m.below_y(table::slots::mark_at(t, name)) {
-        let even = table::weights::balanced(table::weights::sum(l.weight, 1), r.weight);
+    if m.below_y(slots::mark_at(t, name)) {
+        let even = weights::balanced(weights::sum(l.weight, 1), r.weight);
         let u = insert_beneath(t, base, l, m, s, node::both(mends, even), fuel - 1);
         let c = u.arm;
         if c.weight == 0 {
@@ -70,7 +73,7 @@ fn insert_beneath(
         }
         return node::join(t, base, name, c, r, mends, u.rebuilt);
     }
-    let even = table::weights::balanced(l.weight, table::weights::sum(r.weight, 1));
+    let even = weights::balanced(l.weight, weights::sum(r.weight, 1));
     let u = insert_beneath(t, base, r, m, s, node::both(mends, even), fuel - 1);
     let c = u.arm;
     if c.weight == 0 {
@@ -83,5 +86,5 @@ fn insert_beneath(
 pub fn insert(t: &mut [u32], base: u32, root: SecondaryArm, m: Mark, s: u32) -> Updated
     ensures { λ u. ⌜ after (updatedValue u) (now (t .exit)) ≡ insert♯ alongY deepest (recordPlace base) (markValue m) s true (secondaryArm root) (now (t .entry)) ⌝ }
 {
-    insert_beneath(t, base, root, m, s, true, table::runs::DEEPEST)
+    insert_beneath(t, base, root, m, s, true, runs::DEEPEST)
 }

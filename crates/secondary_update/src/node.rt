@@ -9,6 +9,7 @@ ghost use Rattle.secondary_update.specs.Node.{join♯};
 ghost use Rattle.secondary_update.specs.Values.{updatedValue};
 use table::secondary::SecondaryArm;
 use table::secondary::SecondaryRecord;
+use table::weights;
 
 // What an update leaves of a tree: its arm, and the weight of the node built afresh, or 0.
 pub struct Updated {
@@ -40,7 +41,7 @@ pub fn join(
 {
     SecondaryRecord::put(t, base, name, l, r);
     let arm = SecondaryArm::over(name, l, r);
-    if both(mends, !table::weights::balanced(l.weight, r.weight)) {
+    if both(mends, !weights::balanced(l.weight, r.weight)) {
         let fresh = secondary_build::build::rebuild(t, base, arm);
         return Updated {
             arm: fresh,

@@ -11,8 +11,11 @@ ghost use Rattle.secondary_update.specs.Updates.{strikeOf, noStrike};
 ghost use Rattle.secondary_update.specs.Values.{struckValue};
 use crate::node;
 use geometry::Mark;
+use table::runs;
 use table::secondary::SecondaryArm;
 use table::secondary::SecondaryRecord;
+use table::slots;
+use table::weights;
 
 // What a strike leaves of a tree: its arm, the weight of the node built afresh, or 0, and its least slot where the struck one was the least.
 pub struct Struck {
@@ -43,7 +46,7 @@ fn damaged() -> Struck
 }
 
 // The name of a node once slot s is struck: the least slot left in its right child, if that was s.
-pub fn renamed(name: u32, s: u32, first: u32) -> u32
+fn renamed(name: u32, s: u32, first: u32) -> u32
     ensures { λ r. ⌜ r ≡ renamed♯ name s first ⌝ }
 {
     if name == s {
@@ -72,14 +75,14 @@ fn strike_beneath(
     let p = SecondaryRecord::at(t, base, name);
     let l = p.left;
     let r = p.right;
-    if table::weights::disagree(l.weight, r.weight, a.weight) {
+    if weights::disagree(l.weight, r.weight, a.weight) {
         return damaged();
     }
-    if m.below_y(table::slots::mark_at(t, name)) {
+    if m.below_y(slots::mark_at(t, name)) {
         if l.weight == 1 {
             return answer(r, 0, name);
         }
-        let even = table::weights::balanced(table::weights::fewer(l.weight), r.weight);
+        let even = weights::balanced(weights::fewer(l.weight), r.weight);
         let u = strike_beneath(t, base, l, m, s, node::both(mends, even), fuel - 1);
         let c = u.arm;
         if c.weight == 0 {
@@ -91,7 +94,7 @@ fn strike_beneath(
     if r.weight == 1 {
         return answer(l, 0, 0);
     }
-    let even = table::weights::balanced(l.weight, table::weights::fewer(r.weight));
+    let even = weights::balanced(l.weight, weights::fewer(r.weight));
     let u = strike_beneath(t, base, r, m, s, node::both(mends, even), fuel - 1);
     let c = u.arm;
     if c.weight == 0 {
@@ -105,5 +108,5 @@ fn strike_beneath(
 pub fn strike(t: &mut [u32], base: u32, root: SecondaryArm, m: Mark, s: u32) -> Struck
     ensures { λ u. ⌜ after (struckValue u) (now (t .exit)) ≡ strike♯ alongY deepest (recordPlace base) (markValue m) s true (secondaryArm root) (now (t .entry)) ⌝ }
 {
-    strike_beneath(t, base, root, m, s, true, table::runs::DEEPEST)
+    strike_beneath(t, base, root, m, s, true, runs::DEEPEST)
 }

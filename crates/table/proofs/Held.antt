@@ -18,17 +18,10 @@ use Rattle.model.proofs.Tree.{weight-marks}
 use Rattle.table.specs.Layout.{runPlace}
 use Rattle.table.specs.Marks.{slotMark}
 use Rattle.table.specs.Arms.{Arm, arm, leafNumber, innerNumber, sum, leafArm, overArm, putRecord}
-use Rattle.table.specs.Holds.{armOf, Holds}
+use Rattle.table.specs.Holds.{armOf, Holds, timesIn, times, Held}
 use Rattle.table.proofs.Frames.{Region, Frame, frame-run, frame-record, frame-mark, putRecord-frame, putRecord-same}
 
--- how often a slot stands in a list, and in a tree
-abbrev pub timesIn : ℕ → List ℕ → ℕ
-timesIn s l = countIf (eqb s) l
-
 module _ {I : Type 0} where
-  abbrev pub times : ℕ → Tree ℕ I → ℕ
-  times s t = timesIn s (marks t)
-
   pub times-node : (s : ℕ) (i : I) (l r : Tree ℕ I) → times s (node i l r) ≡ times s l + times s r
   times-node s i l r = countIf-append (eqb s) (marks l) (marks r)
 
@@ -72,14 +65,6 @@ total-once (suc n) l h = omega (arith, h n, total-once n l h)
 
 pub once-length : (n : ℕ) (l : List ℕ) → ((s : ℕ) → timesIn s l ≤ 1) → ((s : ℕ) → 0 < timesIn s l → s < n) → length l ≤ n
 once-length n l once within = omega (arith, total-length n l within, total-once n l once)
-
-module _ {I : Type 0} (A : Axis Mark Box) (f : ℕ → Mark) (place : ℕ → ℕ) (C : ℕ) where
-  -- the words hold the tree: each slot once, below C, with its mark
-  pub record Held (xs : List ℕ) (t : Tree ℕ I) : Type 0 where
-    pub once : (s : ℕ) → times s t ≤ 1
-    pub within : (s : ℕ) → 0 < times s t → s < C
-    pub marked : (s : ℕ) → 0 < times s t → slotMark xs s ≡ f s
-    pub records : Holds A f place xs t
 
 module _ {I : Type 0} {A : Axis Mark Box} {f : ℕ → Mark} {place : ℕ → ℕ} {C : ℕ} where
   pub held-weight : {xs : List ℕ} {t : Tree ℕ I} → Held A f place C xs t → weight t ≤ C

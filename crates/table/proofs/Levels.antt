@@ -13,8 +13,9 @@ use Rattle.model.specs.Tree.{Tree, weight, depth, Balanced}
 use Rattle.model.proofs.Sizes.{D-between, D-rises}
 use Rattle.model.proofs.Depth.{balanced-depth}
 use Rattle.table.specs.Layout.{mainPlace, levelPlace, recordPlace}
+use Rattle.table.specs.Holds.{Held}
 use Rattle.table.proofs.Frames.{Region, level-region, main-region}
-use Rattle.table.proofs.Held.{Held, held-weight}
+use Rattle.table.proofs.Held.{held-weight}
 
 W-words : (C : ℕ) → W C ≡ 64 + 32 * C + 16 * (D C * C)
 unfolding W

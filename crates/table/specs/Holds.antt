@@ -1,10 +1,14 @@
--- What it is for words to hold a tree over slots (docs/LAYOUT.md, "Names"): one equation for each inner node. Assumes nothing.
-use Prim.Native.Nat.{ℕ, _+_, _*_}
+-- What it is for words to hold a tree over slots (docs/LAYOUT.md, "Names"): one equation for each inner node, and the marks in their slots. Assumes
+-- nothing.
+use Prim.Native.Nat.{ℕ, _+_, _*_, _≤_, _<_}
 use mathlib.Core.Path.{_≡_}
 use mathlib.Core.List.{List}
+use lib.Dec.{eqb}
+use Rattle.model.specs.Lists.{countIf}
 use Rattle.model.specs.Axis.{Axis}
 use Rattle.model.specs.Sheet.{Mark, Box}
-use Rattle.model.specs.Tree.{Tree, leaf, node, weight, least, greatest}
+use Rattle.model.specs.Tree.{Tree, leaf, node, weight, marks, least, greatest}
+use Rattle.table.specs.Marks.{slotMark}
 use Rattle.table.specs.Arms.{Arm, arm, arms, recordAt}
 
 module _ {I : Type 0} where
@@ -22,3 +26,17 @@ module _ {I : Type 0} where
     abbrev pub Holds : (ℕ → ℕ) → List ℕ → Tree ℕ I → Type 0
     Holds place xs (leaf s) = Unit {0}
     Holds place xs (node i l r) = (recordAt xs (place (least r)) ≡ arms (armOf l) (armOf r)) × Holds place xs l × Holds place xs r
+
+-- how often a slot stands in a list, and in a tree
+abbrev pub timesIn : ℕ → List ℕ → ℕ
+timesIn s l = countIf (eqb s) l
+
+abbrev pub times : {I : Type 0} → ℕ → Tree ℕ I → ℕ
+times s t = timesIn s (marks t)
+
+-- In a table of capacity C the words hold the tree: its records are right, and each slot stands once, is below C, and has its mark.
+pub record Held {I : Type 0} (A : Axis Mark Box) (f : ℕ → Mark) (place : ℕ → ℕ) (C : ℕ) (xs : List ℕ) (t : Tree ℕ I) : Type 0 where
+  pub once : (s : ℕ) → times s t ≤ 1
+  pub within : (s : ℕ) → 0 < times s t → s < C
+  pub marked : (s : ℕ) → 0 < times s t → slotMark xs s ≡ f s
+  pub records : Holds A f place xs t
