@@ -1,4 +1,4 @@
--- From words whose run A has distinct slots, the mirror of the building leaves words that hold the model's built tree, and writes its slots' records
+-- From words whose run A has distinct slots, the mirror of the building leaves words that hold the model's built tree, and writes its names' records
 -- alone; on words that hold a tree, the mirror of the rebuilding leaves the tree built afresh of its slots. Assumes nothing.
 use Prim.Native.Nat.{ℕ, _+_, _-_, _/_, _≤_, _<_}
 use mathlib.Core.Path.{_≡_, refl, sym, ap, subst, _∙_}
@@ -22,7 +22,7 @@ use Rattle.table.specs.Arms.{Arm}
 use Rattle.table.specs.Holds.{armOf, timesIn, times, Held}
 use Rattle.table.specs.After.{After}
 use Rattle.table.proofs.Frames.{sets-at, Region, Frame, frame-refl, frame-trans, frame-weaken, frame-run, frame-mark, putRecord-frame}
-use Rattle.table.proofs.Held.{times-node, times-least, held-weight, held-least, held-frame, leafArm-of, overArm-of, node-held, Leaves}
+use Rattle.table.proofs.Held.{times-least, held-weight, held-least, held-frame, leafArm-of, overArm-of, node-held, Names, names-left, names-right, names-own, Leaves}
 use Rattle.secondary_build.specs.Build.{runLeaf, buildOver, buildNode, build♯, build♯-leaf, build♯-node, rebuildRun, rebuildWithin, rebuild♯}
 use Rattle.secondary_build.proofs.Collecting.{run-frame, collect-holds}
 
@@ -38,11 +38,11 @@ pub record Run (f : ℕ → Mark) (C i : ℕ) (l xs : List ℕ) : Type 0 where
   pub within : (s : ℕ) → 0 < timesIn s l → s < C
   pub marked : (s : ℕ) → 0 < timesIn s l → slotMark xs s ≡ f s
 
--- what building leaves: the arm of a tree that the words hold, and all words as they were but for the records of the tree's slots
+-- what building leaves: the arm of a tree that the words hold, and all words as they were but for the records of the tree's names
 pub record Built {I : Type 0} (A : Axis Mark Box) (f : ℕ → Mark) (place : ℕ → ℕ) (C : ℕ) (xs : List ℕ) (p : After Arm) (t : Tree ℕ I) : Type 0 where
   pub is : p .out ≡ armOf A f t
   pub held : Held A f place C (p .words) t
-  pub frame : Frame place (λ s. 0 < times s t) 0 0 xs (p .words)
+  pub frame : Frame place (Names t) 0 0 xs (p .words)
 
 module _ {f : ℕ → Mark} {C i : ℕ} (l r : List ℕ) {xs : List ℕ} (u : Run f C i (l ++ r) xs) where
   -- the parts of a run
@@ -108,14 +108,14 @@ module _ {I : Type 0} (A : Axis Mark Box) (f : ℕ → Mark) (place : ℕ → �
   unfolding buildOver
   over-built j l r i xs p q g u bp bq =
       let ys : List ℕ = q .words in
-      let inC : ((s : ℕ) → 0 < times s r → s < C) = bq .held .within in
+      let inC : ((s : ℕ) → Names r s → s < C) = λ s k. bq .held .within s (k .0) in
       let long : length ys ≡ length xs = bq .frame .long ∙ bp .frame .long in
       let gy : Region place C (length ys) = rw long g in
       let v : Run f C (i + length (marks l)) (marks r) ys =
-      run-kept g (bq .frame) inC (run-kept g (bp .frame) (bp .held .within) (run-right (marks l) (marks r) u)) in
+      run-kept g (bq .frame) inC (run-kept g (bp .frame) (λ s k. bp .held .within s (k .0)) (run-right (marks l) (marks r) u)) in
       let apart : ((s : ℕ) → times s l + times s r ≤ 1) = λ s. omega (arith, u .once s, countIf-append (eqb s) (marks l) (marks r)) in
       let hl : Held A f place C ys l =
-      held-frame A f g (omega arith) (omega arith) (frame-run (runPlace C 0) (runPlace C C) (bq .frame)) inC l (λ s k. inl (omega (arith, apart s))) (bp .held) in
+      held-frame A f g (omega arith) (omega arith) (frame-run (runPlace C 0) (runPlace C C) (bq .frame)) inC l (λ s k. inl (omega (arith, k .0, apart s))) (bp .held) in
       let h = node-held A f gy j l r ys refl hl (bq .held) apart in
       let name : least r < C = held-least (bq .held) in
       rw (run-least r v, bp .is, bq .is)
@@ -123,9 +123,9 @@ module _ {I : Type 0} (A : Axis Mark Box) (f : ℕ → Mark) (place : ℕ → �
         is = overArm-of A f j l r (omega (arith, name, g .small)) (omega (arith, held-weight h, g .small));
         held = h;
         frame =
-            frame-trans (frame-weaken (λ s k. omega (arith, times-node s j l r)) (bp .frame))
-            (frame-trans (frame-weaken (λ s k. omega (arith, times-node s j l r)) (bq .frame))
-            (frame-weaken (λ s e. rw e (omega (arith, times-node (least r) j l r, times-least r)))
+            frame-trans (frame-weaken (names-left j l r) (bp .frame))
+            (frame-trans (frame-weaken (λ s k. names-right j l r apart s (k .0)) (bq .frame))
+            (frame-weaken (names-own j l r apart)
             (putRecord-frame place ys (least r) (armOf A f l) (armOf A f r) (gy .room (least r) name))));
       }
 
@@ -146,7 +146,7 @@ module _ {I : Type 0} (A : Axis Mark Box) (f : ℕ → Mark) (place : ℕ → �
         let first = bl i xs g (run-left (marks l) (marks r) u′) in
         rw (build♯-node (length run) long A place C i xs, half, rest)
         (over-built (R .build run) l r i xs _ _ g u′ first
-        (br (i + length (marks l)) _ (rw (first .frame .long) g) (run-kept g (first .frame) (first .held .within) (run-right (marks l) (marks r) u′)))))
+        (br (i + length (marks l)) _ (rw (first .frame .long) g) (run-kept g (first .frame) (λ s k. first .held .within s (k .0)) (run-right (marks l) (marks r) u′)))))
         l p i xs g u
 
     pub rebuild-holds : (d : ℕ) (t : Tree ℕ I) (xs : List ℕ) → Region place C (length xs) → getD xs capacityPlace 0 ≡ C → Held A f place C xs t → depth t < 40

@@ -1,7 +1,7 @@
 -- On words that hold a tree at some places of records, the mirror of the copy leaves words that hold it there and at other places, and writes only its
--- slots' records there. Assumes nothing.
+-- names' records there. Assumes nothing.
 use Prim.Native.Nat.{ℕ, zero, suc, _+_, _*_, _/_, _%_, _≤_, _<_}
-use mathlib.Core.Path.{_≡_, refl, sym, subst, _∙_}
+use mathlib.Core.Path.{_≡_, refl, _∙_}
 use mathlib.Core.List.{List}
 use mathlib.Core.Logic.{_⊎_, inl, inr}
 use native.Mathlib.Omega.{arith}
@@ -15,18 +15,14 @@ use Rattle.table.specs.Marks.{slotMark}
 use Rattle.table.specs.Arms.{arms, recordAt, putRecord}
 use Rattle.table.specs.Holds.{number, armOf, Holds, times, Held}
 use Rattle.table.proofs.Frames.{Region, Frame, frame-refl, frame-trans, frame-weaken, frame-run, record-same, frame-record, frame-mark, putRecord-frame, putRecord-same}
-use Rattle.table.proofs.Held.{times-node, times-least, held-left, held-right, held-least, held-frame}
+use Rattle.table.proofs.Held.{times-node, times-least, held-left, held-right, held-least, held-frame, Names, names-left, names-right, names-own}
 use Rattle.secondary_build.specs.Copy.{copyRecord, copyNode, copy♯}
 
--- what copying leaves: the tree at its new places and at its old ones, and all words as they were but for the records of its slots at the new places
+-- what copying leaves: the tree at its new places and at its old ones, and all words as they were but for the records of its names at the new places
 pub record Copied {I : Type 0} (A : Axis Mark Box) (f : ℕ → Mark) (from to : ℕ → ℕ) (C : ℕ) (xs ys : List ℕ) (t : Tree ℕ I) : Type 0 where
   pub held : Held A f to C ys t
   pub kept : Held A f from C ys t
-  pub frame : Frame to (λ s. 0 < times s t) 0 0 xs ys
-
--- the slots that name a tree's inner nodes: all but its least
-abbrev Names : {I : Type 0} → Tree ℕ I → ℕ → Type 0
-Names t s = (0 < times s t) × (s ≡ least t → ⊥)
+  pub frame : Frame to (Names t) 0 0 xs ys
 
 -- where no record at the old places meets one at the new
 module _ (from to : ℕ → ℕ) (C n : ℕ) (g : Region to C n) (clear : (s q : ℕ) → s < C → q < C → (from s + 8 ≤ to q) ⊎ (to q + 8 ≤ from s)) where
@@ -61,7 +57,7 @@ module _ (from to : ℕ → ℕ) (C n : ℕ) (g : Region to C n) (clear : (s q :
       }
 
   module _ {I : Type 0} (A : Axis Mark Box) (f : ℕ → Mark) where
-    -- the same with fewer records: a right child's least names its parent, and no node of its own, so the parent's record stays as it was written
+    -- the same without the old places: a right child's least names its parent, and no node of its own, so the parent's record stays as it was written
     record Copies (xs ys : List ℕ) (t : Tree ℕ I) : Type 0 where
       held : Held A f to C ys t
       frame : Frame to (Names t) 0 0 xs ys
@@ -75,7 +71,6 @@ module _ (from to : ℕ → ℕ) (C n : ℕ) (g : Region to C n) (clear : (s q :
     node-copies i l r xs ys zs ln h cl cr =
         let name = least r in
         let d : ((s : ℕ) → times s l + times s r ≤ 1) = λ s. omega (arith, h .once s, times-node s i l r) in
-        let unlike : ((s : ℕ) → 0 < times s r → s ≡ least l → ⊥) = λ s k e. let p = subst (λ q. 0 < times q l) (sym e) (times-least l) in omega (arith, d s) in
         let room : to name + 8 ≤ length xs = omega (arith, g .room name (held-least (held-right h))) in
         let inL : ((s : ℕ) → Names l s → s < C) = λ s k. cl .held .within s (k .0) in
         let inR : ((s : ℕ) → Names r s → s < C) = λ s k. cr .held .within s (k .0) in
@@ -87,11 +82,9 @@ module _ (from to : ℕ → ℕ) (C n : ℕ) (g : Region to C n) (clear : (s q :
         ∙ frame-record g (omega arith) (omega arith) fl inL name inC (λ k. omega (arith, k .0, d name, times-least r))
         ∙ putRecord-same to xs name (armOf A f l) (armOf A f r) room in
         let hl : Held A f to C zs l = held-frame A f g (omega arith) (omega arith) fr inR l (λ s k. inl (omega (arith, k .0, d s))) (cl .held) in
-        let names : Names (node i l r) name = (omega (arith, times-node name i l r, times-least r), unlike name (times-least r)) in
         let a : Frame to (Names (node i l r)) 0 0 xs zs =
-        frame-trans (frame-weaken (λ s e. subst (Names (node i l r)) (sym e) names) (putRecord-frame to xs name (armOf A f l) (armOf A f r) room))
-        (frame-trans (frame-weaken (λ s k. (omega (arith, k .0, times-node s i l r), k .1)) (cl .frame))
-        (frame-weaken (λ s k. (omega (arith, k .0, times-node s i l r), unlike s (k .0))) (cr .frame))) in
+        frame-trans (frame-weaken (names-own i l r d) (putRecord-frame to xs name (armOf A f l) (armOf A f r) room))
+        (frame-trans (frame-weaken (names-left i l r) (cl .frame)) (frame-weaken (λ s k. names-right i l r d s (k .0)) (cr .frame))) in
         record {
           held = record {
             once = h .once;
@@ -132,5 +125,5 @@ module _ {I : Type 0} (A : Axis Mark Box) (f : ℕ → Mark) (from to : ℕ → 
       record {
         held = c .held;
         kept = old-held from to C (length xs) g clear (c .frame) (λ s k. h .within s (k .0)) A f t h;
-        frame = frame-weaken (λ s k. k .0) (c .frame);
+        frame = c .frame;
       }

@@ -1,33 +1,38 @@
--- On words that hold a tree, the mirror of the insertion leaves words that hold the model's tree with the slot inserted, mended where that is asked.
--- No order of the marks is asked. Assumes nothing.
+-- On words that hold an ordered tree whose arm stands at a word, the mirror of the insertion leaves there the model's tree with the slot inserted,
+-- mended where that is asked. Assumes nothing.
 use Prim.Native.Nat.{ℕ, zero, suc, _+_, _*_, _/_, _%_, _≤_, _<_}
-use mathlib.Core.Path.{_≡_, refl, sym, _∙_}
-use mathlib.Core.Bool.{Bool, true, false, _&&_}
-use mathlib.Core.List.{List, [], _∷_}
+use mathlib.Core.Path.{_≡_, refl, sym, ap, subst, _∙_}
+use mathlib.Core.Bool.{Bool, true, false}
+use mathlib.Core.List.{List, [], _∷_, _++_}
+use mathlib.Core.Logic.{_⊎_, inl, inr}
 use native.Mathlib.Omega.{arith}
-use lib.Dec.{eqb}
+use lib.Dec.{ltb, eqb}
 use lib.ListN.{length, getD}
-use borrow.Author.Tests.{eq-eqb, ne-eqb, eqb-true}
+use borrow.Author.Tests.{eq-eqb, ne-eqb, eqb-true, ltb-true, ltb-false}
 use Rattle.model.specs.Lists.{indicator}
-use Rattle.model.specs.Axis.{Axis}
+use Rattle.model.specs.Axis.{Space, Axis}
 use Rattle.model.specs.Register.{Register}
 use Rattle.model.specs.Sheet.{Mark, Box}
 use Rattle.model.specs.Slots.{slotAxis}
-use Rattle.model.specs.Tree.{Tree, leaf, node, weight, depth, least, evenly, build, insertLeaf}
-use Rattle.model.proofs.Logic.{by-cases}
-use Rattle.model.proofs.Tree.{weight-pos}
+use Rattle.model.specs.Tree.{Tree, leaf, node, weight, depth, marks, least, greatest, evenly, build, insertLeaf, rebuilt}
+use Rattle.model.specs.Laws.{AxisLaws, Sorted}
+use Rattle.model.proofs.Logic.{by-cases, clash}
+use Rattle.model.proofs.Sorted.{sorted-left, sorted-right, sorted-across}
+use Rattle.model.proofs.Tree.{weight-pos, marks-pos, all-least, all-greatest, build-marks}
+use Rattle.model.proofs.Rebalance.{rebalance-left, rebalance-right, rebuilt-left, rebuilt-right}
 use Rattle.table.specs.Layout.{capacityPlace}
 use Rattle.table.specs.Marks.{slotMark}
-use Rattle.table.specs.Arms.{Arm, arms, sum}
-use Rattle.table.specs.Holds.{armOf, times, Held}
-use Rattle.table.specs.After.{After}
-use Rattle.table.proofs.Frames.{Region}
-use Rattle.table.proofs.Held.{times-node, times-least, held-weight, held-left, held-right, leafArm-of, Leaves}
-use Rattle.secondary_update.specs.Updates.{Update}
-use Rattle.secondary_update.specs.Node.{join♯}
-use Rattle.secondary_update.specs.Insert.{split♯, Insertion, ifSound, insertLeft, insertRight, insertRecord, insertNode, insert♯}
+use Rattle.table.specs.Arms.{Arm, arm, arms, sum, lesser, greater, grownArm, armAt, putArm}
+use Rattle.table.specs.Holds.{number, armOf, times, Held}
+use Rattle.table.specs.After.{After, after}
+use Rattle.table.proofs.Frames.{Region, frame-refl}
+use Rattle.table.proofs.Held.{times-node, times-least, held-weight, held-least, held-left, held-right, leafArm-of, Names, greatest-marks, names-marks, Leaves}
+use Rattle.table.proofs.Spots.{record-arms, putArm-length, putArm-same, frameAt-of, frameAt-weaken, putArm-frame, Spot, spot-weaken, record-spot, spot-capacity, spot-mark, spot-held, LeavesAt, put-leaves, left-leaves, right-leaves}
+use Rattle.secondary_build.specs.Build.{rebuild♯}
+use Rattle.secondary_build.proofs.Building.{rebuild-holds}
+use Rattle.secondary_update.specs.Insert.{damaged, unsteady♯, childPlace, nodeAt, split♯, putFresh, afresh♯, Insertion, insertAfresh, insertWay, insertRecord, insertArm, insertNode, insert♯}
 use Rattle.secondary_update.proofs.Mending.{mended, figure, MayMend}
-use Rattle.secondary_update.proofs.Joining.{Answers, mendedLeft, mendedRight, mayMend-left, mayMend-right, mayMend-and, join-holds, join-left, join-right}
+use Rattle.secondary_update.proofs.Joining.{mended-marks, mended-times, mended-weight, mended-least, mayMend-left, mayMend-right, node-leaves}
 
 -- what insertion does to a tree, whatever the order
 module _ {B I : Type 0} (X : Axis ℕ B) (R : Register ℕ B I) (s : ℕ) where
@@ -53,121 +58,451 @@ module _ {B I : Type 0} (X : Axis ℕ B) (R : Register ℕ B I) (s : ℕ) where
   insert-least (leaf p) u = rw u
   insert-least (node i l r) u = by-cases (X .below s (least r)) (λ e. rw e (insert-least l u)) (λ e. rw e)
 
--- the tree beneath is found sound where it has a weight
-ifSound-next : (p : After Update) (next : Arm → ℕ → List ℕ → After Update) → 0 < p .out .arm .weight → ifSound p next ≡ next (p .out .arm) (p .out .rebuilt) (p .words)
-unfolding ifSound
-ifSound-next p next h = rw (ne-eqb (p .out .arm .weight) 0 (omega arith))
+  -- the least stays, or the slot is the least: so all names stay names
+  insert-first : (t : Tree ℕ I) → (least (insertLeaf X R s t) ≡ s) ⊎ (least (insertLeaf X R s t) ≡ least t)
+  insert-first (leaf p) = by-cases (X .below s p) (λ e. rw e (inl refl)) (λ e. rw e (inr refl))
+  insert-first (node i l r) = by-cases (X .below s (least r)) (λ e. rw e (insert-first l)) (λ e. rw e (inr refl))
+
+  pub insert-names : (t : Tree ℕ I) → times s t ≡ 0 → (q : ℕ) → Names t q → Names (insertLeaf X R s t) q
+  insert-names t z q k = (omega (arith, k .0, insert-times q t), λ e. go (insert-first t) e)
+    where
+      go : (least (insertLeaf X R s t) ≡ s) ⊎ (least (insertLeaf X R s t) ≡ least t) → q ≡ least (insertLeaf X R s t) → ⊥
+      go (inl u) e = let p = subst (λ j. 0 < times j t) (e ∙ u) (k .0) in omega arith
+      go (inr u) e = k .1 (e ∙ u)
+
+-- the figure is a weight of the tree
+rebuilt-weight : {M I : Type 0} (t : Tree M I) → rebuilt t ≤ weight t
+rebuilt-weight (leaf m) = omega arith
+rebuilt-weight (node i l r) =
+    by-cases (evenly l r) (λ t. rw t (omega (arith, rebuilt-weight l, rebuilt-weight r))) (λ u. rw u (omega arith))
+
+figure-weight : {M I : Type 0} (mends : Bool) (t : Tree M I) → figure mends t ≤ weight t
+figure-weight true t = rebuilt-weight t
+figure-weight false t = omega arith
+
+-- mending a node that is even, of which one child is balanced, mends the other
+module _ {B I : Type 0} (X : Axis ℕ B) (R : Register ℕ B I) (i : I) (l r : Tree ℕ I) where
+  -- a node that is mended and not even is built afresh
+  abbrev Steady : Bool → Type 0
+  Steady mends = mends ≡ true → evenly l r ≡ true
+
+  steady-left : (mends : Bool) → MayMend mends r → Steady mends → mended X R mends (node i l r) ≡ node i (mended X R mends l) r
+  steady-left true b e = rw (rebalance-left X R i l r b, e refl)
+  steady-left false b e = refl
+
+  steady-right : (mends : Bool) → MayMend mends l → Steady mends → mended X R mends (node i l r) ≡ node i l (mended X R mends r)
+  steady-right true b e = rw (rebalance-right X R i l r b, e refl)
+  steady-right false b e = refl
+
+  figure-left : (mends : Bool) → MayMend mends r → Steady mends → figure mends (node i l r) ≡ figure mends l
+  figure-left true b e = rw (rebuilt-left i l r b, e refl)
+  figure-left false b e = refl
+
+  figure-right : (mends : Bool) → MayMend mends l → Steady mends → figure mends (node i l r) ≡ figure mends r
+  figure-right true b e = rw (rebuilt-right i l r b, e refl)
+  figure-right false b e = refl
+
+-- The order goes by the coordinate first: along it the coordinate does not fall, and two marks of which none is below the other have the same.
+pub record ByCoordinate (A : Axis Mark Box) : Type 0 where
+  pub rises : (a b : Mark) → A .below a b ≡ true → A .at a ≤ A .at b
+  pub level : (a b : Mark) → A .below a b ≡ false → A .at b ≤ A .at a
+
+-- so it does by the laws of an axis, where marks that are the same are one
+pub axis-coordinate : {S : Space Mark Box} {A : Axis Mark Box} → AxisLaws S A → ((a b : Mark) → S .same a b ≡ true → a ≡ b) → ByCoordinate A
+axis-coordinate {A = A} O sound = record {
+  rises = O .rises;
+  level = λ a b e. by-cases (A .below b a) (λ t. O .rises b a t) (λ u. let q = ap (A .at) (sound a b (O .close a b e u)) in omega arith);
+}
 
 sum-one : (w : ℕ) → w ≤ 65536 → sum w 1 ≡ w + 1
 unfolding sum
 sum-one w h = omega arith
 
-module _ {I : Type 0} (A : Axis Mark Box) (f : ℕ → Mark) (R : Register ℕ Box I) (place : ℕ → ℕ) (C : ℕ)
-    (xs : List ℕ) (g : Region place C (length xs)) (c : getD xs capacityPlace 0 ≡ C) (s : ℕ) (inC : s < C) (marked : slotMark xs s ≡ f s) where
-  -- the tree of one slot
-  abbrev one : ℕ → Tree ℕ I
-  one q = leaf q
+lesser-new : (a v : ℕ) → v ≤ a → lesser a v ≡ v
+unfolding lesser
+lesser-new a v h = by-cases (ltb v a) (λ t. rw t) (λ u. rw u (omega (arith, ltb-false v a u)))
 
-  abbrev IsHeld : Tree ℕ I → Type 0
-  IsHeld t = Held A f place C xs t
+lesser-old : (a v : ℕ) → a ≤ v → lesser a v ≡ a
+unfolding lesser
+lesser-old a v h = by-cases (ltb v a) (λ t. rw t (omega (arith, ltb-true v a t))) (λ u. rw u)
 
+greater-new : (a v : ℕ) → a ≤ v → greater a v ≡ v
+unfolding greater
+greater-new a v h = by-cases (ltb a v) (λ t. rw t) (λ u. rw u (omega (arith, ltb-false a v u)))
+
+greater-old : (a v : ℕ) → v ≤ a → greater a v ≡ a
+unfolding greater
+greater-old a v h = by-cases (ltb a v) (λ t. rw t (omega (arith, ltb-true a v t))) (λ u. rw u)
+
+module _ {I : Type 0} (A : Axis Mark Box) (f : ℕ → Mark) (R : Register ℕ Box I) (s : ℕ) where
   abbrev grown : Tree ℕ I → Tree ℕ I
   grown t = insertLeaf (slotAxis f A) R s t
 
-  -- an update leaves the tree t, mended where that is asked
-  abbrev Grows : After Update → Bool → Tree ℕ I → Type 0
-  Grows p mends t = Answers A f place C xs p (mended (slotAxis f A) R mends t) (figure mends t)
+  -- The arm of the grown tree, which is written before the tree is grown. In an ordered tree the coordinates of least and greatest are those of before,
+  -- or the slot's.
+  module _ (K : ByCoordinate A) where
+    abbrev low : Tree ℕ I → ℕ
+    low t = A .at (f (least t))
 
-  leaf-held : IsHeld (leaf s)
-  leaf-held = record {
-    once = λ q. by-cases (eqb q s) (λ e. rw e (omega arith)) (λ e. rw e (omega arith));
-    within = λ q k. by-cases (eqb q s) (λ e. rw (eqb-true q s e) inC) (λ e. absurd (let z = (rw e at k) in omega arith));
-    marked = λ q k. by-cases (eqb q s) (λ e. rw (eqb-true q s e) marked) (λ e. absurd (let z = (rw e at k) in omega arith));
-    records = tt;
-  }
+    abbrev high : Tree ℕ I → ℕ
+    high t = A .at (f (greatest t))
 
-  -- the new slot stands in the grown tree once
-  grown-once : (t : Tree ℕ I) → IsHeld t → times s t ≡ 0 → (q : ℕ) → times q t + indicator (eqb q s) ≤ 1
-  grown-once t h z q =
-      by-cases (eqb q s)
-      (λ e. let k : times q t ≡ 0 = rw (eqb-true q s e) z in rw e (omega arith))
-      (λ e. rw e (omega (arith, h .once q)))
+    low-high : (t : Tree ℕ I) → Sorted (slotAxis f A) (marks t) → low t ≤ high t
+    low-high (leaf q) o = omega arith
+    low-high (node i l r) o = K .rises (f (least l)) (f (greatest r)) (all-greatest r (all-least l (sorted-across (marks l) (marks r) o)))
 
-  pair-holds : (mends : Bool) (i : I) (a b : ℕ) → IsHeld (leaf a) → IsHeld (leaf b) → ((q : ℕ) → times q (one a) + times q (one b) ≤ 1)
-      → Grows (join♯ A place b (armOf A f (one a)) (armOf A f (one b)) false 0 xs) mends (node i (leaf a) (leaf b))
-  pair-holds true i a b ha hb d = join-holds A f R place C i (leaf a) (leaf b) b false 0 xs a g c ha hb d (λ e. omega arith) refl
-  pair-holds false i a b ha hb d = join-holds A f R place C i (leaf a) (leaf b) b false 0 xs a g c ha hb d (λ e. omega arith) refl
+    grown-low : (t : Tree ℕ I) → Sorted (slotAxis f A) (marks t) → lesser (low t) (A .at (f s)) ≡ low (grown t)
+    grown-low (leaf q) o =
+        by-cases (A .below (f s) (f q))
+        (λ e. rw e (lesser-new (A .at (f q)) (A .at (f s)) (K .rises (f s) (f q) e)))
+        (λ e. rw e (lesser-old (A .at (f q)) (A .at (f s)) (K .level (f s) (f q) e)))
+    grown-low (node i l r) o =
+        by-cases (A .below (f s) (f (least r)))
+        (λ e. rw e (grown-low l (sorted-left (marks l) (marks r) o)))
+        (λ e.
+        let across = K .rises (f (least l)) (f (least r)) (all-least r (all-least l (sorted-across (marks l) (marks r) o))) in
+        rw e (lesser-old (low l) (A .at (f s)) (omega (arith, K .level (f s) (f (least r)) e))))
 
-  split-holds : (mends : Bool) (q : ℕ) → IsHeld (leaf q) → times s (one q) ≡ 0
-      → Grows (split♯ A place (f s) s (armOf A f (one q)) xs) mends (grown (leaf q))
-  unfolding split♯
-  split-holds mends q h z =
-      let half : 2 * q / 2 ≡ q = omega arith in
-      let small = g .small in
-      let once = grown-once (leaf q) h z in
-      let i = R .insert s (R .build (q ∷ [])) in
-      rw (half, h .marked q (times-least (one q)), leafArm-of s (A .at (f s)) (omega arith))
-      (by-cases (A .below (f s) (f q))
-      (λ e. rw e (pair-holds mends i s q leaf-held h (λ p. omega (arith, once p))))
-      (λ e. rw e (pair-holds mends i q s h leaf-held (λ p. omega (arith, once p)))))
+    grown-high : (t : Tree ℕ I) → Sorted (slotAxis f A) (marks t) → greater (high t) (A .at (f s)) ≡ high (grown t)
+    grown-high (leaf q) o =
+        by-cases (A .below (f s) (f q))
+        (λ e. rw e (greater-old (A .at (f q)) (A .at (f s)) (K .rises (f s) (f q) e)))
+        (λ e. rw e (greater-new (A .at (f q)) (A .at (f s)) (K .level (f s) (f q) e)))
+    grown-high (node i l r) o =
+        by-cases (A .below (f s) (f (least r)))
+        (λ e.
+        let across = low-high r (sorted-right (marks l) (marks r) o) in
+        rw e (greater-old (high r) (A .at (f s)) (omega (arith, K .rises (f s) (f (least r)) e))))
+        (λ e. rw e (grown-high r (sorted-right (marks l) (marks r) o)))
 
-  module _ (rec : Insertion) (mends : Bool) (i : I) (l r : Tree ℕ I) (h : IsHeld (node i l r)) (z : times s (node i l r) ≡ 0)
-      (deep : depth (node i l r) + 1 < 40) (b : MayMend mends (node i l r)) where
-    abbrev here : I
-    here = R .insert s i
+    grown-number : (i : I) (l r : Tree ℕ I) → number (node i l r) ≡ number (grown (node i l r))
+    grown-number i l r = by-cases (A .below (f s) (f (least r))) (λ e. rw e) (λ e. rw (e, insert-least (slotAxis f A) R s r e))
 
-    left-holds : Grows (rec (mends && evenly (grown l) r) (armOf A f l) xs) (mends && evenly (grown l) r) (grown l)
-        → Grows (insertLeft A rec place (least r) (arms (armOf A f l) (armOf A f r)) mends xs) mends (node here (grown l) r)
-    unfolding insertLeft
-    left-holds u =
-        let w = held-weight (held-left h) in
-        let small = g .small in
-        let p = rec (mends && evenly (grown l) r) (armOf A f l) xs in
-        let next : sum (weight l) 1 ≡ weight (grown l) = sum-one (weight l) (omega arith) ∙ sym (insert-weight (slotAxis f A) R s l) in
-        let pos : 0 < p .out .arm .weight = rw (u .0 .is) (weight-pos (mendedLeft A f R mends (grown l) r)) in
-        rw (next, ifSound-next p (λ a n ws. join♯ A place (least r) a (armOf A f r) mends n ws) pos)
-        (join-left A f R place C here (grown l) r (least r) mends (p .out .rebuilt) g c
-        (λ q. omega (arith, grown-once (node i l r) h z q, insert-times (slotAxis f A) R s q l, times-node q i l r))
-        (omega (arith, insert-depth (slotAxis f A) R s l)) refl (mayMend-right mends i l r b) (u .0) (held-right h) (u .1))
+    grown-arm : (i : I) (l r : Tree ℕ I) → Sorted (slotAxis f A) (marks (node i l r)) → weight l + weight r ≤ 65536
+        → grownArm (armOf A f (node i l r)) (A .at (f s)) ≡ armOf A f (grown (node i l r))
+    unfolding grownArm
+    grown-arm i l r o h =
+        let w = sum-one (weight l + weight r) h ∙ sym (insert-weight (slotAxis f A) R s (node i l r)) in
+        λ k. arm (grown-number i l r k) (w k) (grown-low (node i l r) o k) (grown-high (node i l r) o k)
 
-    right-holds : A .below (f s) (f (least r)) ≡ false
-        → Grows (rec (mends && evenly l (grown r)) (armOf A f r) xs) (mends && evenly l (grown r)) (grown r)
-        → Grows (insertRight A rec place (least r) (arms (armOf A f l) (armOf A f r)) mends xs) mends (node here l (grown r))
-    unfolding insertRight
-    right-holds e u =
-        let w = held-weight (held-right h) in
-        let small = g .small in
-        let p = rec (mends && evenly l (grown r)) (armOf A f r) xs in
-        let next : sum (weight r) 1 ≡ weight (grown r) = sum-one (weight r) (omega arith) ∙ sym (insert-weight (slotAxis f A) R s r) in
-        let pos : 0 < p .out .arm .weight = rw (u .0 .is) (weight-pos (mendedRight A f R mends l (grown r))) in
-        rw (next, ifSound-next p (λ a n ws. join♯ A place (least r) (armOf A f l) a mends n ws) pos)
-        (join-right A f R place C here l (grown r) (least r) mends (p .out .rebuilt) g c
-        (λ q. omega (arith, grown-once (node i l r) h z q, insert-times (slotAxis f A) R s q r, times-node q i l r))
-        (omega (arith, insert-depth (slotAxis f A) R s r)) (sym (insert-least (slotAxis f A) R s r e)) (mayMend-left mends i l r b) (held-left h) (u .0) (u .1))
+  -- mending a child keeps the node's arm
+  mended-arm-left : (mends : Bool) (i : I) (l r : Tree ℕ I) → armOf A f (node i (mended (slotAxis f A) R mends l) r) ≡ armOf A f (node i l r)
+  mended-arm-left mends i l r = rw (mended-weight (slotAxis f A) R mends l, mended-least (slotAxis f A) R mends l)
 
-    node-holds : Grows (rec (mends && evenly (grown l) r) (armOf A f l) xs) (mends && evenly (grown l) r) (grown l)
-        → Grows (rec (mends && evenly l (grown r)) (armOf A f r) xs) (mends && evenly l (grown r)) (grown r)
-        → Grows (insertNode A rec place (f s) s mends (armOf A f (node i l r)) xs) mends (grown (node i l r))
-    unfolding insertNode insertRecord
-    node-holds u v =
-        let odd : ((2 * least r + 1) % 2 ≡ 0 → ⊥) = omega arith in
-        let half : (2 * least r + 1) / 2 ≡ least r = omega arith in
-        let member : 0 < times (least r) (node i l r) = omega (arith, times-node (least r) i l r, times-least r) in
-        rw (ne-eqb ((2 * least r + 1) % 2) 0 odd, half, h .records .0, eq-eqb (weight l + weight r) (weight l + weight r) refl, h .marked (least r) member)
-        (by-cases (A .below (f s) (f (least r))) (λ e. rw e (left-holds u)) (λ e. rw e (right-holds e v)))
+  mended-arm-right : (mends : Bool) (i : I) (l r : Tree ℕ I) → armOf A f (node i l (mended (slotAxis f A) R mends r)) ≡ armOf A f (node i l r)
+  mended-arm-right mends i l r =
+      let e = greatest-marks (mended (slotAxis f A) R mends r) r (mended-marks (slotAxis f A) R mends r) in
+      rw (mended-weight (slotAxis f A) R mends r, mended-least (slotAxis f A) R mends r, e)
 
-  pub insert-holds : (fuel : ℕ) (t : Tree ℕ I) (mends : Bool) → Held A f place C xs t → times s t ≡ 0 → depth t < fuel → depth t + 1 < 40 → MayMend mends t
-      → Leaves A f place C xs (insert♯ A fuel place (f s) s mends (armOf A f t) xs .out .arm) (insert♯ A fuel place (f s) s mends (armOf A f t) xs .words)
-      (mended (slotAxis f A) R mends (insertLeaf (slotAxis f A) R s t))
-      × (insert♯ A fuel place (f s) s mends (armOf A f t) xs .out .rebuilt ≡ figure mends (insertLeaf (slotAxis f A) R s t))
-  unfolding insert♯ insertNode
-  insert-holds zero t mends h z n d b = absurd (omega arith)
-  insert-holds (suc k) (leaf q) mends h z n d b =
-      let even : 2 * q % 2 ≡ 0 = omega arith in
-      rw (eq-eqb (2 * q % 2) 0 even) (split-holds mends q h z)
-  insert-holds (suc k) (node i l r) mends h z n d b =
-      node-holds (insert♯ A k place (f s) s) mends i l r h z d b
-      (insert-holds k l (mends && evenly (grown l) r) (held-left h) (omega (arith, times-node s i l r)) (omega arith) (omega arith)
-      (mayMend-and mends (evenly (grown l) r) l (mayMend-left mends i l r b)))
-      (insert-holds k r (mends && evenly l (grown r)) (held-right h) (omega (arith, times-node s i l r)) (omega arith) (omega arith)
-      (mayMend-and mends (evenly l (grown r)) r (mayMend-right mends i l r b)))
+module _ {I : Type 0} (A : Axis Mark Box) (f : ℕ → Mark) (R : Register ℕ Box I) (place : ℕ → ℕ) (C s : ℕ) where
+  -- before the insertion of slot s: the tree is held, in order and without the slot, its arm stands at a spot, and the slot has its mark
+  pub record Ready (at : ℕ) (xs : List ℕ) (t : Tree ℕ I) : Type 0 where
+    pub region : Region place C (length xs)
+    pub capacity : getD xs capacityPlace 0 ≡ C
+    pub marked : slotMark xs s ≡ f s
+    pub is : armAt xs at ≡ armOf A f t
+    pub held : Held A f place C xs t
+    pub new : times s t ≡ 0
+    pub sorted : Sorted (slotAxis f A) (marks t)
+    pub spot : Spot place C (Names (insertLeaf (slotAxis f A) R s t)) at (length xs)
+
+  -- an insertion leaves the tree t, mended where that is asked, and the figure
+  abbrev pub Grows : ℕ → List ℕ → After ℕ → Bool → Tree ℕ I → Type 0
+  Grows at xs p mends t = LeavesAt A f place C at xs (p .words) (mended (slotAxis f A) R mends t) × (p .out ≡ figure mends t)
+
+  abbrev X : Axis ℕ Box
+  X = slotAxis f A
+
+  abbrev grow : Tree ℕ I → Tree ℕ I
+  grow t = grown A f R s t
+
+  -- so it does not tell of damage
+  pub grows-sound : (at : ℕ) (xs : List ℕ) (p : After ℕ) (mends : Bool) (t : Tree ℕ I) → C ≤ 65536 → Grows at xs p mends t → p .out ≡ damaged → ⊥
+  grows-sound at xs p mends t small h e = omega (arith, h .1, figure-weight mends t, mended-weight X R mends t, held-weight (h .0 .held))
+
+  -- what was inserted without mending is built afresh
+  module _ (at : ℕ) (xs ws : List ℕ) (i : I) (l r : Tree ℕ I) (g : Region place C (length xs)) (c : getD xs capacityPlace 0 ≡ C)
+      (spot : Spot place C (Names (node i l r)) at (length xs)) (h : LeavesAt A f place C at xs ws (node i l r)) where
+    abbrev fresh : Tree ℕ I
+    fresh = build X R (least l) (marks l ++ marks r)
+
+    fresh-marks : marks fresh ≡ marks l ++ marks r
+    fresh-marks = build-marks X R (least l) (marks l ++ marks r) (marks-pos (node i l r))
+
+    abbrev rebuilding : After Arm
+    rebuilding = rebuild♯ A place (armOf A f (node i l r)) ws
+
+    fresh-leaves : depth (node i l r) < 40 → Leaves A f place C ws (rebuilding .out) (rebuilding .words) fresh
+    fresh-leaves deep =
+        rebuild-holds A f place C R (least l) (node i l r) ws (subst (Region place C) (sym (h .frame .long)) g)
+        (spot-capacity spot g (λ q k. h .held .within q (k .0)) (h .frame) ∙ c) (h .held) deep
+
+    afresh-words : depth (node i l r) < 40 → afresh♯ A place at 0 ws ≡ after (weight l + weight r) (putArm (rebuilding .words) at (rebuilding .out))
+    unfolding afresh♯ putFresh
+    afresh-words deep =
+        let e : rebuilding .out .weight ≡ weight fresh = ap (λ a. a .weight) (fresh-leaves deep .is) in
+        rw (h .is, ne-eqb (rebuilding .out .weight) 0 (omega (arith, weight-pos fresh)))
+
+    afresh-grows : depth (node i l r) < 40 → evenly l r ≡ false → Grows at xs (afresh♯ A place at 0 ws) true (node i l r)
+    afresh-grows deep u =
+        let old = names-marks fresh (node i l r) fresh-marks in
+        let new = names-marks (node i l r) fresh (sym fresh-marks) in
+        let e : mended X R true (node i l r) ≡ fresh = rw u in
+        let n : figure true (node i l r) ≡ weight l + weight r = rw u in
+        let k = put-leaves A f fresh refl (spot-weaken old spot) (frameAt-weaken new (h .frame)) (fresh-leaves deep) in
+        rw (afresh-words deep) (subst (LeavesAt A f place C at xs _) (sym e) k, sym n)
+
+  again-grows : (at : ℕ) (xs : List ℕ) (rec : Insertion) (i : I) (l r : Tree ℕ I) → Region place C (length xs) → getD xs capacityPlace 0 ≡ C
+      → Spot place C (Names (node i l r)) at (length xs) → depth (node i l r) < 40 → evenly l r ≡ false → Grows at xs (rec false at xs) false (node i l r)
+      → Grows at xs (insertAfresh A rec place at xs) true (node i l r)
+  unfolding insertAfresh
+  again-grows at xs rec i l r g c spot deep u h = rw (h .1) (afresh-grows at xs (rec false at xs .words) i l r g c spot (h .0) deep u)
+
+  module _ (inC : s < C) where
+    leaf-held : (xs : List ℕ) → slotMark xs s ≡ f s → Held {I = I} A f place C xs (leaf s)
+    leaf-held xs marked = record {
+      once = λ q. by-cases (eqb q s) (λ e. rw e (omega arith)) (λ e. rw e (omega arith));
+      within = λ q k. by-cases (eqb q s) (λ e. rw (eqb-true q s e) inC) (λ e. absurd (let z = (rw e at k) in omega arith));
+      marked = λ q k. by-cases (eqb q s) (λ e. rw (eqb-true q s e) marked) (λ e. absurd (let z = (rw e at k) in omega arith));
+      records = tt;
+    }
+
+    -- the new slot stands in the grown tree once, and below C
+    grown-once : {xs : List ℕ} (t : Tree ℕ I) → Held A f place C xs t → times s t ≡ 0 → (q : ℕ) → times q t + indicator (eqb q s) ≤ 1
+    grown-once t h z q =
+        by-cases (eqb q s)
+        (λ e. let k : times q t ≡ 0 = rw (eqb-true q s e) z in rw e (omega arith))
+        (λ e. rw e (omega (arith, h .once q)))
+
+    grown-within : {xs : List ℕ} (t : Tree ℕ I) → Held A f place C xs t → (q : ℕ) → 0 < times q (grow t) → q < C
+    grown-within t h q k =
+        by-cases (eqb q s)
+        (λ e. rw (eqb-true q s e) inC)
+        (λ e. h .within q (let z = (rw e at (insert-times X R s q t)) in omega arith))
+
+    -- a leaf is split
+    pair-grows : (mends : Bool) (at : ℕ) (xs : List ℕ) (i : I) (a b : ℕ) → Region place C (length xs) → Held {I = I} A f place C xs (leaf a) → Held {I = I} A f place C xs (leaf b)
+        → ((q : ℕ) → times {I = I} q (leaf a) + times {I = I} q (leaf b) ≤ 1) → Spot place C (Names (node i (leaf a) (leaf b))) at (length xs)
+        → Grows at xs (after 0 (nodeAt place at b (armOf {I = I} A f (leaf a)) (armOf {I = I} A f (leaf b)) xs)) mends (node i (leaf a) (leaf b))
+    unfolding nodeAt
+    pair-grows true at xs i a b g ha hb d spot =
+        (put-leaves A f (node i (leaf a) (leaf b)) refl spot (frameAt-of (frame-refl xs)) (node-leaves A f i (leaf a) (leaf b) xs g ha hb d), refl)
+    pair-grows false at xs i a b g ha hb d spot =
+        (put-leaves A f (node i (leaf a) (leaf b)) refl spot (frameAt-of (frame-refl xs)) (node-leaves A f i (leaf a) (leaf b) xs g ha hb d), refl)
+
+    split-grows : (mends : Bool) (at : ℕ) (xs : List ℕ) (q : ℕ) → Ready at xs (leaf q)
+        → Grows at xs (after 0 (split♯ A place (f s) s at (armOf {I = I} A f (leaf q)) xs)) mends (grow (leaf q))
+    unfolding split♯
+    split-grows mends at xs q k =
+        let half : 2 * q / 2 ≡ q = omega arith in
+        let small = k .region .small in
+        let once = grown-once (leaf q) (k .held) (k .new) in
+        let i = R .insert s (R .build (q ∷ [])) in
+        let new = leaf-held xs (k .marked) in
+        rw (half, k .held .marked q (times-least {I = I} (leaf q)), leafArm-of s (A .at (f s)) (omega arith))
+        (by-cases (A .below (f s) (f q))
+        (λ e. rw e (pair-grows mends at xs i s q (k .region) new (k .held) (λ p. omega (arith, once p)) (rw e at (k .spot))))
+        (λ e. rw e (pair-grows mends at xs i q s (k .region) (k .held) new (λ p. omega (arith, once p)) (rw e at (k .spot)))))
+
+    -- at a node the arm is widened, and then the child's turn comes
+    module _ (K : ByCoordinate A) (at : ℕ) (xs : List ℕ) (i : I) (l r : Tree ℕ I) (k : Ready at xs (node i l r)) where
+      abbrev here : I
+      here = R .insert s i
+
+      abbrev wide : Arm
+      wide = grownArm (armOf A f (node i l r)) (A .at (f s))
+
+      abbrev widened : List ℕ
+      widened = putArm xs at wide
+
+      room : at + 4 ≤ length xs
+      room = k .spot .room
+
+      long : length widened ≡ length xs
+      long = putArm-length xs at wide room
+
+      widened-region : Region place C (length widened)
+      widened-region = subst (Region place C) (sym long) (k .region)
+
+      widened-capacity : getD widened capacityPlace 0 ≡ C
+      widened-capacity =
+          spot-capacity (k .spot) (k .region) (λ q p. grown-within (node i l r) (k .held) q (p .0))
+          (putArm-frame xs at wide room) ∙ k .capacity
+
+      widened-marked : slotMark widened s ≡ f s
+      widened-marked = spot-mark (k .spot) xs wide refl s inC ∙ k .marked
+
+      widened-held : Held A f place C widened (node i l r)
+      widened-held =
+          spot-held (k .spot) xs wide refl A f (node i l r)
+          (insert-names X R s (node i l r) (k .new)) (k .held)
+
+      named : least r < C
+      named = held-least (held-right (k .held))
+
+      children : arms (armAt widened (place (least r))) (armAt widened (place (least r) + 4)) ≡ arms (armOf A f l) (armOf A f r)
+      children = sym (record-arms widened (place (least r)) (widened-region .room (least r) named)) ∙ widened-held .records .0
+
+      once : (q : ℕ) → times q l + times q r + indicator (eqb q s) ≤ 1
+      once q = omega (arith, grown-once (node i l r) (k .held) (k .new) q, times-node q i l r)
+
+      is-widened : armAt widened at ≡ armOf A f (grow (node i l r))
+      is-widened =
+          putArm-same xs at wide room
+          ∙ grown-arm A f R s K i l r (k .sorted) (omega (arith, held-weight (k .held), k .region .small))
+
+      left-ready : Ready (place (least r)) widened l
+      left-ready = record {
+        region = widened-region;
+        capacity = widened-capacity;
+        marked = widened-marked;
+        is = ap (λ p. p .left) children;
+        held = held-left widened-held;
+        new = omega (arith, k .new, times-node s i l r);
+        sorted = sorted-left (marks l) (marks r) (k .sorted);
+        spot = record-spot (place (least r)) (least r) widened-region named (λ q p. grown-within l (held-left widened-held) q (p .0))
+            (λ p. omega (arith, p .0, insert-times X R s (least r) l, once (least r), times-least r)) (omega arith) (omega arith);
+      }
+
+      right-ready : A .below (f s) (f (least r)) ≡ false → Ready (place (least r) + 4) widened r
+      right-ready e = record {
+        region = widened-region;
+        capacity = widened-capacity;
+        marked = widened-marked;
+        is = ap (λ p. p .right) children;
+        held = held-right widened-held;
+        new = omega (arith, k .new, times-node s i l r);
+        sorted = sorted-right (marks l) (marks r) (k .sorted);
+        spot = record-spot (place (least r) + 4) (least r) widened-region named (λ q p. grown-within r (held-right widened-held) q (p .0))
+            (λ p. p .1 (sym (insert-least X R s r e))) (omega arith) (omega arith);
+      }
+
+      left-grows : (mends : Bool) (p : After ℕ) → A .below (f s) (f (least r)) ≡ true → MayMend mends r → Steady X R here (grow l) r mends
+          → Grows (place (least r)) widened p mends (grow l) → Grows at xs p mends (node here (grow l) r)
+      left-grows mends p e b t h =
+          let m : Tree ℕ I = mended X R mends (grow l) in
+          let same = mended-marks X R mends (grow l) in
+          let names = names-marks (node here m r) (node here (grow l) r) (ap (λ z. z ++ marks r) same) in
+          let d : ((q : ℕ) → times q m + times q r ≤ 1) =
+          λ q. omega (arith, once q, mended-times X R mends (grow l) q, insert-times X R s q l) in
+          let e′ : armAt widened at ≡ armOf A f (node here (grow l) r) = (rw e at is-widened) in
+          let u = left-leaves A f (k .region) here m r (spot-weaken names (rw e at (k .spot))) d long
+          (rw (mended-arm-left A f R s mends here (grow l) r) e′)
+          (putArm-frame xs at wide room) (held-right widened-held) (ap (λ p. p .right) children) (h .0) in (
+            subst (LeavesAt A f place C at xs (p .words)) (sym (steady-left X R here (grow l) r mends b t)) u,
+            rw (figure-left X R here (grow l) r mends b t) (h .1),
+          )
+
+      right-grows : (mends : Bool) (p : After ℕ) → A .below (f s) (f (least r)) ≡ false → MayMend mends l → Steady X R here l (grow r) mends
+          → Grows (place (least r) + 4) widened p mends (grow r) → Grows at xs p mends (node here l (grow r))
+      right-grows mends p e b t h =
+          let m : Tree ℕ I = mended X R mends (grow r) in
+          let same = mended-marks X R mends (grow r) in
+          let names = names-marks (node here l m) (node here l (grow r)) (ap (λ z. marks l ++ z) same) in
+          let name : least m ≡ least r = mended-least X R mends (grow r) ∙ insert-least X R s r e in
+          let d : ((q : ℕ) → times q l + times q m ≤ 1) =
+          λ q. omega (arith, once q, mended-times X R mends (grow r) q, insert-times X R s q r) in
+          let e′ : armAt widened at ≡ armOf A f (node here l (grow r)) = (rw e at is-widened) in
+          let u = right-leaves A f (k .region) here l m (spot-weaken names (rw e at (k .spot))) d long
+          (rw (mended-arm-right A f R s mends here l (grow r)) e′)
+          (putArm-frame xs at wide room) (held-left widened-held)
+          (subst (λ q. armAt widened (place q) ≡ armOf A f l) (sym name) (ap (λ p. p .left) children))
+          (subst (λ q. LeavesAt A f place C (place q + 4) widened (p .words) m) (sym name) (h .0)) in (
+            subst (LeavesAt A f place C at xs (p .words)) (sym (steady-right X R here l (grow r) mends b t)) u,
+            rw (figure-right X R here l (grow r) mends b t) (h .1),
+          )
+
+      -- the mirror at a node, and its way to either child
+      insert♯-node : (fuel : ℕ) (mends : Bool) → insert♯ A (suc fuel) place (f s) s mends at xs
+          ≡ insertWay A (insert♯ A fuel place (f s) s) place (f s) (least r) (A .below (f s) (f (least r))) (arms (armOf A f l) (armOf A f r)) mends at (armOf A f (node i l r)) xs
+      unfolding insert♯ insertNode insertArm insertRecord
+      insert♯-node fuel mends =
+          let odd : ((2 * least r + 1) % 2 ≡ 0 → ⊥) = omega arith in
+          let half : (2 * least r + 1) / 2 ≡ least r = omega arith in
+          let member : 0 < times (least r) (node i l r) = omega (arith, times-node (least r) i l r, times-least r) in
+          rw (
+            k .is,
+            ne-eqb ((2 * least r + 1) % 2) 0 odd,
+            half,
+            k .held .records .0,
+            eq-eqb (weight l + weight r) (weight l + weight r) refl,
+            k .held .marked (least r) member,
+          )
+
+      next-left : sum (weight l) 1 ≡ weight (grow l)
+      next-left = sum-one (weight l) (omega (arith, held-weight (held-left (k .held)), k .region .small)) ∙ sym (insert-weight X R s l)
+
+      next-right : sum (weight r) 1 ≡ weight (grow r)
+      next-right = sum-one (weight r) (omega (arith, held-weight (held-right (k .held)), k .region .small)) ∙ sym (insert-weight X R s r)
+
+      module _ (rec : Insertion) where
+        abbrev Way : Bool → Bool → After ℕ
+        Way left mends = insertWay A rec place (f s) (least r) left (arms (armOf A f l) (armOf A f r)) mends at (armOf A f (node i l r)) xs
+
+        way-left : (mends : Bool) → Steady X R here (grow l) r mends → Way true mends ≡ rec mends (place (least r)) widened
+        unfolding insertWay unsteady♯ childPlace
+        way-left true t = rw (next-left, t refl)
+        way-left false t = refl
+
+        way-right : (mends : Bool) → Steady X R here l (grow r) mends → Way false mends ≡ rec mends (place (least r) + 4) widened
+        unfolding insertWay unsteady♯ childPlace
+        way-right true t = rw (next-right, t refl)
+        way-right false t = refl
+
+        afresh-left : evenly (grow l) r ≡ false → Way true true ≡ insertAfresh A rec place at xs
+        unfolding insertWay unsteady♯
+        afresh-left u = rw (next-left, u)
+
+        afresh-right : evenly l (grow r) ≡ false → Way false true ≡ insertAfresh A rec place at xs
+        unfolding insertWay unsteady♯
+        afresh-right u = rw (next-right, u)
+
+        -- where mending is asked and the node will not be even, its tree is grown without mending, and then built afresh
+        module _ (shallow : depth (node i l r) + 1 < 40) where
+          left-way : (mends : Bool) → A .below (f s) (f (least r)) ≡ true → MayMend mends r
+              → Grows (place (least r)) widened (rec mends (place (least r)) widened) mends (grow l)
+              → (mends ≡ true → Grows at xs (rec false at xs) false (grow (node i l r)))
+              → Grows at xs (Way true mends) mends (node here (grow l) r)
+          left-way true e b h again =
+              by-cases (evenly (grow l) r)
+              (λ t. rw (way-left true (λ z. t)) (left-grows true (rec true (place (least r)) widened) e b (λ z. t) h))
+              (λ u. rw (afresh-left u)
+              (again-grows at xs rec here (grow l) r (k .region) (k .capacity) (rw e at (k .spot))
+              (omega (arith, insert-depth X R s l)) u (rw e at (again refl))))
+          left-way false e b h again = rw (way-left false (λ z. clash z refl)) (left-grows false (rec false (place (least r)) widened) e b (λ z. clash z refl) h)
+
+          right-way : (mends : Bool) → A .below (f s) (f (least r)) ≡ false → MayMend mends l
+              → Grows (place (least r) + 4) widened (rec mends (place (least r) + 4) widened) mends (grow r)
+              → (mends ≡ true → Grows at xs (rec false at xs) false (grow (node i l r)))
+              → Grows at xs (Way false mends) mends (node here l (grow r))
+          right-way true e b h again =
+              by-cases (evenly l (grow r))
+              (λ t. rw (way-right true (λ z. t)) (right-grows true (rec true (place (least r) + 4) widened) e b (λ z. t) h))
+              (λ u. rw (afresh-right u)
+              (again-grows at xs rec here l (grow r) (k .region) (k .capacity) (rw e at (k .spot))
+              (omega (arith, insert-depth X R s r)) u (rw e at (again refl))))
+          right-way false e b h again =
+              rw (way-right false (λ z. clash z refl)) (right-grows false (rec false (place (least r) + 4) widened) e b (λ z. clash z refl) h)
+
+    -- THE INSERTION: where mending is asked, a step of fuel more may be spent on the tree that is built afresh
+    pub insert-holds : ByCoordinate A → (fuel : ℕ) (t : Tree ℕ I) (mends : Bool) (at : ℕ) (xs : List ℕ) → Ready at xs t → depth t + indicator mends < fuel → depth t + 1 < 40
+        → MayMend mends t
+        → LeavesAt A f place C at xs (insert♯ A fuel place (f s) s mends at xs .words) (mended (slotAxis f A) R mends (insertLeaf (slotAxis f A) R s t))
+        × (insert♯ A fuel place (f s) s mends at xs .out ≡ figure mends (insertLeaf (slotAxis f A) R s t))
+    unfolding insert♯ insertNode insertArm
+    insert-holds K zero t mends at xs k n d b = absurd (omega arith)
+    insert-holds K (suc fuel) (leaf q) mends at xs k n d b =
+        let even : 2 * q % 2 ≡ 0 = omega arith in
+        rw (k .is, eq-eqb (2 * q % 2) 0 even) (split-grows mends at xs q k)
+    insert-holds K (suc fuel) (node i l r) mends at xs k n d b =
+        let again : (mends ≡ true → Grows at xs (insert♯ A fuel place (f s) s false at xs) false (grow (node i l r))) =
+        λ e. insert-holds K fuel (node i l r) false at xs k (let m = (rw e at n) in omega arith) d tt in
+        let rec : Insertion = insert♯ A fuel place (f s) s in
+        rw (insert♯-node K at xs i l r k fuel mends)
+        (by-cases (A .below (f s) (f (least r)))
+        (λ e. rw e (left-way K at xs i l r k rec d mends e (mayMend-right mends i l r b)
+        (insert-holds K fuel l mends (place (least r)) (widened K at xs i l r k) (left-ready K at xs i l r k) (omega arith) (omega arith) (mayMend-left mends i l r b))
+        again))
+        (λ e. rw e (right-way K at xs i l r k rec d mends e (mayMend-left mends i l r b)
+        (insert-holds K fuel r mends (place (least r) + 4) (widened K at xs i l r k) (right-ready K at xs i l r k e) (omega arith) (omega arith) (mayMend-right mends i l r b))
+        again)))

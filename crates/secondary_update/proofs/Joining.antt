@@ -14,14 +14,14 @@ use Rattle.model.specs.Sheet.{Mark, Box}
 use Rattle.model.specs.Slots.{slotAxis}
 use Rattle.model.specs.Tree.{Tree, node, weight, depth, marks, least, evenly, build}
 use Rattle.model.proofs.Logic.{by-cases, clash}
-use Rattle.model.proofs.Tree.{weight-marks, marks-pos, marks-least, build-marks, rebalance-marks}
+use Rattle.model.proofs.Tree.{weight-marks, marks-pos, build-marks, rebalance-marks}
 use Rattle.model.proofs.Rebalance.{rebalance-left, rebalance-right, rebuilt-left, rebuilt-right}
 use Rattle.table.specs.Layout.{capacityPlace, runPlace}
 use Rattle.table.specs.Arms.{Arm, overArm, putRecord}
 use Rattle.table.specs.Holds.{armOf, timesIn, times, Held}
 use Rattle.table.specs.After.{After}
 use Rattle.table.proofs.Frames.{Region, Frame, frame-trans, frame-weaken, frame-run, frame-header, putRecord-frame}
-use Rattle.table.proofs.Held.{times-node, times-least, held-weight, held-least, overArm-of, held-frame, node-held, Leaves}
+use Rattle.table.proofs.Held.{held-weight, held-least, overArm-of, held-frame, node-held, Names, least-marks, names-marks, names-left, names-right, names-own, Leaves}
 use Rattle.secondary_build.proofs.Building.{rebuild-holds}
 use Rattle.secondary_update.specs.Updates.{Update}
 use Rattle.secondary_update.specs.Node.{afresh, join♯}
@@ -53,10 +53,14 @@ module _ {B I : Type 0} (X : Axis ℕ B) (R : Register ℕ B I) where
   mended-weight b t = weight-marks (mended X R b t) ∙ ap length (mended-marks b t) ∙ sym (weight-marks t)
 
   pub mended-least : (b : Bool) (t : Tree ℕ I) → least (mended X R b t) ≡ least t
-  mended-least b t = least-first (mended X R b t) ∙ ap (λ l. getD l 0 0) (mended-marks b t) ∙ sym (least-first t)
-    where
-      least-first : (t : Tree ℕ I) → least t ≡ getD (marks t) 0 0
-      least-first t = rw (marks-least t .1)
+  mended-least b t = least-marks (mended X R b t) t (mended-marks b t)
+
+  -- and so its names
+  pub names-unmended : (b : Bool) (t : Tree ℕ I) (s : ℕ) → Names (mended X R b t) s → Names t s
+  names-unmended b t = names-marks (mended X R b t) t (mended-marks b t)
+
+  pub names-mended : (b : Bool) (t : Tree ℕ I) (s : ℕ) → Names t s → Names (mended X R b t) s
+  names-mended b t = names-marks t (mended X R b t) (sym (mended-marks b t))
 
 -- what may be mended at a node may be mended beneath it, and need not be
 module _ {M I : Type 0} where
@@ -74,8 +78,8 @@ module _ {M I : Type 0} where
   mayMend-and false c t b = tt
 
 module _ {I : Type 0} {A : Axis Mark Box} {f : ℕ → Mark} {place : ℕ → ℕ} {C : ℕ} where
-  -- what is left after a change within the tree's own slots is left of the words before it
-  pub leaves-after : {P : ℕ → Type 0} {xs ys zs : List ℕ} {a : Arm} {t : Tree ℕ I} → ((s : ℕ) → P s → 0 < times s t)
+  -- what is left after a change within the tree's own names is left of the words before it
+  pub leaves-after : {P : ℕ → Type 0} {xs ys zs : List ℕ} {a : Arm} {t : Tree ℕ I} → ((s : ℕ) → P s → Names t s)
       → Frame place P (runPlace C 0) (runPlace C C) xs ys → Leaves A f place C ys a zs t → Leaves A f place C xs a zs t
   leaves-after w a h = record { is = h .is; held = h .held; frame = frame-trans (frame-weaken w a) (h .frame) }
 
@@ -85,10 +89,10 @@ module _ {I : Type 0} {A : Axis Mark Box} {f : ℕ → Mark} {place : ℕ → �
     leaves-region = subst (Region place C) (sym (h .frame .long)) g
 
     pub leaves-capacity : getD xs capacityPlace 0 ≡ C → getD ys capacityPlace 0 ≡ C
-    leaves-capacity c = frame-header g (omega arith) (omega arith) (h .frame) (h .held .within) capacityPlace (omega arith) ∙ c
+    leaves-capacity c = frame-header g (omega arith) (omega arith) (h .frame) (λ s p. h .held .within s (p .0)) capacityPlace (omega arith) ∙ c
 
     pub leaves-apart : (u : Tree ℕ I) → ((s : ℕ) → times s t + times s u ≤ 1) → Held A f place C xs u → Held A f place C ys u
-    leaves-apart u d k = held-frame A f g (omega arith) (omega arith) (h .frame) (h .held .within) u (λ s p. inl (omega (arith, d s))) k
+    leaves-apart u d k = held-frame A f g (omega arith) (omega arith) (h .frame) (λ s p. h .held .within s (p .0)) u (λ s p. inl (omega (arith, p .0, d s))) k
 
 module _ {I : Type 0} (A : Axis Mark Box) (f : ℕ → Mark) {place : ℕ → ℕ} {C : ℕ} where
   -- the record of a node written over two trees with no slot in common
@@ -102,7 +106,7 @@ module _ {I : Type 0} (A : Axis Mark Box) (f : ℕ → Mark) {place : ℕ → �
       record {
         is = overArm-of A f i l r (omega arith) (omega arith);
         held = h;
-        frame = frame-weaken (λ s e. rw e (omega (arith, times-node (least r) i l r, times-least r)))
+        frame = frame-weaken (names-own i l r d)
             (frame-run (runPlace C 0) (runPlace C C) (putRecord-frame place xs (least r) (armOf A f l) (armOf A f r) (g .room (least r) inC)));
       }
 
@@ -163,8 +167,8 @@ module _ {I : Type 0} (A : Axis Mark Box) (f : ℕ → Mark) (R : Register ℕ B
   join-holds i l r name mends below xs d g c hl hr dis deep e =
       let ys = putRecord xs (place (least r)) (armOf A f l) (armOf A f r) in
       let k = node-leaves A f i l r xs g hl hr dis in
-      let same : (s : ℕ) → 0 < times s (node i l r) → 0 < times s (build (slotAxis f A) R d (marks l ++ marks r)) =
-      λ s p. subst (λ m. 0 < timesIn s m) (sym (build-marks (slotAxis f A) R d (marks l ++ marks r) (marks-pos (node i l r)))) p in
+      let same = names-marks (node i l r) (build (slotAxis f A) R d (marks l ++ marks r))
+      (sym (build-marks (slotAxis f A) R d (marks l ++ marks r) (marks-pos (node i l r)))) in
       rw e
       (by-cases (mends && not (evenly l r))
       (λ t. rw (t, k .is) (leaves-after same (k .frame) (rebuild-holds A f place C R d (node i l r) ys (leaves-region g k) (leaves-capacity g k c) (k .held) (deep t)), refl))
@@ -182,7 +186,8 @@ module _ {I : Type 0} (A : Axis Mark Box) (f : ℕ → Mark) (R : Register ℕ B
         let q = join-holds i m r name mends (figure (mends && evenly l r) l) ys (least l) (leaves-region g h) (leaves-capacity g h c) (h .held) (leaves-apart g h r d k) d
         (λ t. rw (unmended-left A f R mends l r t) deep) named in
         rw (h .is, e) (
-          leaves-after (λ s p. omega (arith, same s, times-node s i l r, mended-times (slotAxis f A) R mends (node i l r) s)) (h .frame) (subst (Leaves A f place C ys _ _) (joined-left A f R mends i l r b) (q .0)),
+          leaves-after (λ s p. names-mended (slotAxis f A) R mends (node i l r) s (names-left i l r s (names-unmended (slotAxis f A) R (mends && evenly l r) l s p)))
+              (h .frame) (subst (Leaves A f place C ys _ _) (joined-left A f R mends i l r b) (q .0)),
           q .1 ∙ figure-left A f R mends i l r b,
         )
 
@@ -196,6 +201,7 @@ module _ {I : Type 0} (A : Axis Mark Box) (f : ℕ → Mark) (R : Register ℕ B
         (leaves-apart g h l (λ s. omega (arith, d s)) k) (h .held) d
         (λ t. rw (unmended-right A f R mends l r t) deep) (named ∙ sym (mended-least (slotAxis f A) R (mends && evenly l r) r)) in
         rw (h .is, e) (
-          leaves-after (λ s p. omega (arith, same s, times-node s i l r, mended-times (slotAxis f A) R mends (node i l r) s)) (h .frame) (subst (Leaves A f place C ys _ _) (joined-right A f R mends i l r b) (q .0)),
+          leaves-after (λ s p. names-mended (slotAxis f A) R mends (node i l r) s (names-right i l r dis s (omega (arith, same s, p .0))))
+              (h .frame) (subst (Leaves A f place C ys _ _) (joined-right A f R mends i l r b) (q .0)),
           q .1 ∙ figure-right A f R mends i l r b,
         )

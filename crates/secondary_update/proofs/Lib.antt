@@ -1,5 +1,5 @@
 pub mod Mending
-pub mod Joining
 pub mod Inserting
+pub mod Joining
 pub mod Striking
 pub mod Auxiliaries

@@ -1,16 +1,13 @@
-// Insertion.
+// Insertion: down from the root, each arm on the way written once, before its node's children are looked at.
 ghost use mathlib.Core.Path.{_≡_};
 ghost use mathlib.Core.Bool.{true};
+ghost use Prim.Native.Nat.{_<_, _^_};
 ghost use Rattle.model.specs.Sheet.{alongY};
 ghost use Rattle.geometry.specs.Values.{markValue};
 ghost use Rattle.table.specs.After.{after};
-ghost use Rattle.table.specs.Layout.{recordPlace, deepest};
+ghost use Rattle.table.specs.Layout.{auxiliaryPlace, recordPlace, deepest};
 ghost use Rattle.table.specs.Values.{secondaryArm};
-ghost use Rattle.secondary_update.specs.Insert.{split♯, insert♯};
-ghost use Rattle.secondary_update.specs.Updates.{noUpdate};
-ghost use Rattle.secondary_update.specs.Values.{updatedValue};
-use crate::node;
-use crate::node::Updated;
+ghost use Rattle.secondary_update.specs.Insert.{unsteady♯, childPlace, split♯, afresh♯, insert♯};
 use geometry::Mark;
 use table::runs;
 use table::secondary::SecondaryArm;
@@ -18,73 +15,114 @@ use table::secondary::SecondaryRecord;
 use table::slots;
 use table::weights;
 
-fn damaged() -> Updated
-    ensures { λ u. ⌜ updatedValue u ≡ noUpdate ⌝ }
+// What an insertion gives in place of its figure where the words hold no tree.
+pub const DAMAGED: u32 = 4294967295;
+
+// Whether a node over these weights is not balanced with one mark more on its left or its right, and is to be mended.
+fn unsteady(mends: bool, left: bool, l: u32, r: u32) -> bool
+    ensures { λ a. ⌜ a ≡ unsteady♯ mends left l r ⌝ }
 {
-    let arm = SecondaryArm::none();
-    Updated { arm, rebuilt: 0 }
+    if mends {
+        if left {
+            return !weights::balanced(weights::sum(l, 1), r);
+        }
+        return !weights::balanced(l, weights::sum(r, 1));
+    }
+    false
 }
 
-// Makes a node of a leaf and the mark m of slot s, the smaller left, named by the larger.
-fn split(t: &mut [u32], base: u32, q: SecondaryArm, m: Mark, s: u32) -> Updated
-    ensures { λ u. ⌜ after (updatedValue u) (now (t .exit)) ≡ split♯ alongY (recordPlace base) (markValue m) s (secondaryArm q) (now (t .entry)) ⌝ }
+// The word at which the left, or the right, arm of the node of that name stands.
+fn child_place(base: u32, name: u32, left: bool) -> usize
+    ensures is { λ r. ⌜ r ≡ childPlace (recordPlace base) name left ⌝ }
+    ensures small { λ r. ⌜ r < 2 ^ 40 ⌝ }
+{
+    let at = (base as usize) + 8 * (name as usize);
+    if left {
+        return at;
+    }
+    at + 4
+}
+
+// Makes a node of a leaf and the mark m of slot s, the smaller left, named by the larger; its arm goes to the word `at`.
+fn split(t: &mut [u32], base: u32, at: usize, q: SecondaryArm, m: Mark, s: u32)
+    requires { ⌜ at < 2 ^ 60 ⌝ }
+    ensures { λ _. ⌜ now (t .exit) ≡ split♯ alongY (recordPlace base) (markValue m) s at (secondaryArm q) (now (t .entry)) ⌝ }
 {
     let new = SecondaryArm::leaf(s, m.y);
     let node = q.node;
     let name = node.slot();
     if m.below_y(slots::mark_at(t, name)) {
-        return node::join(t, base, name, new, q, false, 0);
+        SecondaryRecord::put(t, base, name, new, q);
+        SecondaryArm::put(t, at, SecondaryArm::over(name, new, q));
+        return;
     }
-    node::join(t, base, s, q, new, false, 0)
+    SecondaryRecord::put(t, base, s, q, new);
+    SecondaryArm::put(t, at, SecondaryArm::over(s, q, new));
 }
 
-// Inserts the mark m of slot s beneath an arm. A node mends what is beneath it only where it stays balanced itself: else it is built afresh whole.
+// Builds afresh the tree whose arm stands at the word `at`, where what was done beneath it has not met damage; gives its weight.
+fn afresh(t: &mut [u32], base: u32, at: usize, done: u32) -> u32
+    requires { ⌜ at < 2 ^ 60 ⌝ }
+    ensures { λ r. ⌜ after r (now (t .exit)) ≡ afresh♯ alongY (recordPlace base) at done (now (t .entry)) ⌝ }
+{
+    if done == DAMAGED {
+        return DAMAGED;
+    }
+    let a = SecondaryArm::at(t, at);
+    let fresh = secondary_build::build::rebuild(t, base, a);
+    if fresh.weight == 0 {
+        return DAMAGED;
+    }
+    SecondaryArm::put(t, at, fresh);
+    a.weight
+}
+
+// Inserts the mark m of slot s beneath the arm at the word `start`. Where it mends, the unbalanced node nearest the root is built afresh once the mark is
+// in: from there on nothing is mended.
 fn insert_beneath(
     t: &mut [u32],
     base: u32,
-    a: SecondaryArm,
+    start: usize,
     m: Mark,
     s: u32,
     mends: bool,
     fuel: u32,
-) -> Updated
-    ensures { λ u. ⌜ after (updatedValue u) (now (t .exit)) ≡ insert♯ alongY fuel (recordPlace base) (markValue m) s mends (secondaryArm a) (now (t .entry)) ⌝ }
+) -> u32
+    requires { ⌜ start < 2 ^ 40 ⌝ }
+    ensures { λ r. ⌜ after r (now (t .exit)) ≡ insert♯ alongY fuel (recordPlace base) (markValue m) s mends start (now (t .entry)) ⌝ }
 {
-    if fuel == 0 {
-        return damaged();
-    }
-    let node = a.node;
-    if node.is_leaf() {
-        return split(t, base, a, m, s);
-    }
-    let name = node.slot();
-    let p = SecondaryRecord::at(t, base, name);
-    let l = p.left;
-    let r = p.right;
-    if weights::disagree(l.weight, r.weight, a.weight) {
-        return damaged();
-    }
-    if m.below_y(slots::mark_at(t, name)) {
-        let even = weights::balanced(weights::sum(l.weight, 1), r.weight);
-        let u = insert_beneath(t, base, l, m, s, node::both(mends, even), fuel - 1);
-        let c = u.arm;
-        if c.weight == 0 {
-            return damaged();
+    let mut at = start;
+    let mut left = fuel;
+    while 0 < left {
+        left -= 1;
+        let a = SecondaryArm::at(t, at);
+        let node = a.node;
+        if node.is_leaf() {
+            split(t, base, at, a, m, s);
+            return 0;
         }
-        return node::join(t, base, name, c, r, mends, u.rebuilt);
+        let name = node.slot();
+        let p = SecondaryRecord::at(t, base, name);
+        let l = p.left;
+        let r = p.right;
+        if weights::disagree(l.weight, r.weight, a.weight) {
+            return DAMAGED;
+        }
+        let below = m.below_y(slots::mark_at(t, name));
+        if unsteady(mends, below, l.weight, r.weight) {
+            let done = insert_beneath(t, base, at, m, s, false, left);
+            return afresh(t, base, at, done);
+        }
+        SecondaryArm::put(t, at, a.grown(m.y));
+        at = child_place(base, name, below);
     }
-    let even = weights::balanced(l.weight, weights::sum(r.weight, 1));
-    let u = insert_beneath(t, base, r, m, s, node::both(mends, even), fuel - 1);
-    let c = u.arm;
-    if c.weight == 0 {
-        return damaged();
-    }
-    node::join(t, base, name, l, c, mends, u.rebuilt)
+    DAMAGED
 }
 
-// Inserts the mark m of slot s, which stands in its slot, into the tree of an arm; the unbalanced node nearest the root is built afresh.
-pub fn insert(t: &mut [u32], base: u32, root: SecondaryArm, m: Mark, s: u32) -> Updated
-    ensures { λ u. ⌜ after (updatedValue u) (now (t .exit)) ≡ insert♯ alongY deepest (recordPlace base) (markValue m) s true (secondaryArm root) (now (t .entry)) ⌝ }
+// Inserts the mark m, which stands in slot s, into the auxiliary tree of the main node named `owner`; gives the weight of the node built afresh, or 0.
+pub fn insert(t: &mut [u32], base: u32, owner: u32, m: Mark, s: u32) -> u32
+    ensures { λ r. ⌜ after r (now (t .exit)) ≡ insert♯ alongY deepest (recordPlace base) (markValue m) s true (auxiliaryPlace owner) (now (t .entry)) ⌝ }
 {
-    insert_beneath(t, base, root, m, s, true, runs::DEEPEST)
+    let start = 75 + 16 * (owner as usize);
+    insert_beneath(t, base, start, m, s, true, runs::DEEPEST)
 }

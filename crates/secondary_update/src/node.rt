@@ -1,4 +1,4 @@
-// One node of an update.
+// One node of a strike, written on the way back.
 ghost use mathlib.Core.Path.{_≡_};
 ghost use mathlib.Core.Bool.{_&&_};
 ghost use Rattle.model.specs.Sheet.{alongY};
@@ -11,7 +11,7 @@ use table::secondary::SecondaryArm;
 use table::secondary::SecondaryRecord;
 use table::weights;
 
-// What an update leaves of a tree: its arm, and the weight of the node built afresh, or 0.
+// What is left of a tree: its arm, and the weight of the node built afresh, or 0.
 pub struct Updated {
     pub arm: SecondaryArm,
     pub rebuilt: u32,
@@ -26,8 +26,8 @@ pub fn both(a: bool, b: bool) -> bool
     false
 }
 
-// Writes the node of that name over l and r. Where the update mends the tree from here on and the node is not balanced, it is built afresh; `below` is the
-// weight of what was built afresh beneath it.
+// Writes the node of that name over l and r. Where the strike mends from here on and the node is not balanced, it is built afresh; `below` is the weight of
+// what was built afresh beneath it.
 pub fn join(
     t: &mut [u32],
     base: u32,

@@ -1,23 +1,22 @@
 -- Trees that words hold, each slot once: kept by changes elsewhere, and made of two by the record of a node over them. For any axis and any places of
 -- records that form a region. Assumes nothing.
-use Prim.Native.Nat.{ℕ, zero, suc, _+_, _*_, _%_, _≤_, _<_}
-use mathlib.Core.Path.{_≡_, refl, sym, subst, _∙_}
-use mathlib.Core.List.{List, [], _∷_}
+use Prim.Native.Nat.{ℕ, zero, suc, _+_, _*_, _-_, _%_, _≤_, _<_}
+use mathlib.Core.Path.{_≡_, refl, sym, ap, subst, _∙_}
+use mathlib.Core.List.{List, [], _∷_, _++_}
 use mathlib.Core.Logic.{_⊎_, inl, inr}
 use native.Mathlib.Omega.{arith}
 use lib.Dec.{eqb}
-use lib.ListN.{length}
+use lib.ListN.{length, getD, length-append}
+use lib.Seq.{getD-append-add}
 use borrow.Author.Tests.{eq-eqb, ne-eqb, eqb-true, eqb-false}
-use Rattle.model.specs.Lists.{countIf}
 use Rattle.model.specs.Axis.{Axis}
 use Rattle.model.specs.Sheet.{Mark, Box}
-use Rattle.model.specs.Tree.{Tree, leaf, node, weight, marks, least}
+use Rattle.model.specs.Tree.{Tree, leaf, node, weight, marks, least, greatest}
 use Rattle.model.proofs.Logic.{by-cases}
 use Rattle.model.proofs.Lists.{countIf-append}
-use Rattle.model.proofs.Tree.{weight-marks}
+use Rattle.model.proofs.Tree.{weight-marks, marks-pos, marks-least}
 use Rattle.table.specs.Layout.{runPlace}
-use Rattle.table.specs.Marks.{slotMark}
-use Rattle.table.specs.Arms.{Arm, arm, leafNumber, innerNumber, sum, leafArm, overArm, putRecord}
+use Rattle.table.specs.Arms.{Arm, arm, leafNumber, innerNumber, sum, arms, leafArm, overArm, recordAt, putRecord}
 use Rattle.table.specs.Holds.{armOf, Holds, timesIn, times, Held}
 use Rattle.table.proofs.Frames.{Region, Frame, frame-run, frame-record, frame-mark, putRecord-frame, putRecord-same}
 
@@ -89,6 +88,19 @@ module _ {I : Type 0} {A : Axis Mark Box} {f : ℕ → Mark} {place : ℕ → �
     records = h .records .2;
   }
 
+  -- a node over two trees with no slot in common, where its record is right
+  pub held-over : {xs : List ℕ} (i : I) (l r : Tree ℕ I) → recordAt xs (place (least r)) ≡ arms (armOf A f l) (armOf A f r) → Held A f place C xs l → Held A f place C xs r
+      → ((s : ℕ) → times s l + times s r ≤ 1) → Held A f place C xs (node i l r)
+  held-over i l r e hl hr d = record {
+    once = λ s. omega (arith, times-node s i l r, d s);
+    within = λ s k. either s (omega (arith, times-node s i l r)) (λ p. hl .within s p) (λ p. hr .within s p);
+    marked = λ s k. either s (omega (arith, times-node s i l r)) (λ p. hl .marked s p) (λ p. hr .marked s p);
+    records = (e, hl .records, hr .records);
+  }
+    where
+      either : {G : Type 0} (s : ℕ) → 0 < times s l + times s r → (0 < times s l → G) → (0 < times s r → G) → G
+      either s h p q = by-cases (eqb (times s l) 0) (λ t. q (omega (arith, eqb-true (times s l) 0 t))) (λ u. p (omega (arith, eqb-false (times s l) 0 u)))
+
 -- the arms that the code makes are the trees'
 pub leafArm-of : (s v : ℕ) → s ≤ 65536 → leafArm s v ≡ arm (2 * s) 1 v v
 unfolding leafArm leafNumber
@@ -152,18 +164,47 @@ module _ {I : Type 0} (A : Axis Mark Box) (f : ℕ → Mark) where
         let kl : Held A f place C ys l =
         held-frame z top fr (λ s e. rw e inC) l (λ s e. inl (let p = subst (λ k. 0 < times k r) (sym e) (times-least r) in omega (arith, d s))) hl in
         let kr : Held A f place C ys r = held-frame z top fr (λ s e. rw e inC) r (λ s e. inr e) hr in
-        record {
-          once = λ s. omega (arith, times-node s i l r, d s);
-          within = λ s k. either s (omega (arith, times-node s i l r)) (λ p. hl .within s p) (λ p. hr .within s p);
-          marked = λ s k. either s (omega (arith, times-node s i l r)) (λ p. kl .marked s p) (λ p. kr .marked s p);
-          records = (putRecord-same place xs name (armOf A f l) (armOf A f r) room, kl .records, kr .records);
-        }
-      where
-        either : {G : Type 0} (s : ℕ) → 0 < times s l + times s r → (0 < times s l → G) → (0 < times s r → G) → G
-        either s h p q = by-cases (eqb (times s l) 0) (λ t. q (omega (arith, eqb-true (times s l) 0 t))) (λ u. p (omega (arith, eqb-false (times s l) 0 u)))
+        held-over i l r (putRecord-same place xs name (armOf A f l) (armOf A f r) room) kl kr d
 
--- What an operation leaves: the arm of a tree that the words hold, and all words as they were but for the records of the tree's slots and run A.
+-- the slots that name a tree's inner nodes: all but its least
+abbrev pub Names : {I : Type 0} → Tree ℕ I → ℕ → Type 0
+Names t s = (0 < times s t) × (s ≡ least t → ⊥)
+
+module _ {I : Type 0} where
+  -- trees of the same slots in the same order have the same least and greatest, and the same names
+  pub least-marks : (t u : Tree ℕ I) → marks t ≡ marks u → least t ≡ least u
+  least-marks t u e = least-first t ∙ ap (λ l. getD l 0 0) e ∙ sym (least-first u)
+    where
+      least-first : (t : Tree ℕ I) → least t ≡ getD (marks t) 0 0
+      least-first t = rw (marks-least t .1)
+
+  pub greatest-marks : (t u : Tree ℕ I) → marks t ≡ marks u → greatest t ≡ greatest u
+  greatest-marks t u e = greatest-last t ∙ ap (λ l. getD l (length l - 1) 0) e ∙ sym (greatest-last u)
+    where
+      greatest-last : (t : Tree ℕ I) → greatest t ≡ getD (marks t) (length (marks t) - 1) 0
+      greatest-last (leaf s) = refl
+      greatest-last (node i l r) =
+          let e : length (marks l ++ marks r) - 1 ≡ length (marks l) + (length (marks r) - 1) =
+          omega (arith, length-append (marks l) (marks r), marks-pos r) in
+          rw (e, getD-append-add (marks l) (marks r) (length (marks r) - 1) 0) (greatest-last r)
+
+  pub names-marks : (t u : Tree ℕ I) → marks t ≡ marks u → (s : ℕ) → Names t s → Names u s
+  names-marks t u e s k = (subst (λ l. 0 < timesIn s l) e (k .0), λ q. k .1 (q ∙ sym (least-marks t u e)))
+
+  -- a name of the left child, and every slot of the right child, is a name of the node
+  module _ (i : I) (l r : Tree ℕ I) where
+    pub names-left : (s : ℕ) → Names l s → Names (node i l r) s
+    names-left s k = (omega (arith, k .0, times-node s i l r), k .1)
+
+    pub names-right : ((s : ℕ) → times s l + times s r ≤ 1) → (s : ℕ) → 0 < times s r → Names (node i l r) s
+    names-right d s k = (omega (arith, times-node s i l r), λ e. let p = subst (λ q. 0 < times q l) (sym e) (times-least l) in omega (arith, d s))
+
+    -- and so is the node's own
+    pub names-own : ((s : ℕ) → times s l + times s r ≤ 1) → (s : ℕ) → s ≡ least r → Names (node i l r) s
+    names-own d s e = names-right d s (subst (λ q. 0 < times q r) (sym e) (times-least r))
+
+-- What an operation leaves: the arm of a tree that the words hold, and all words as they were but for the records of the tree's names and run A.
 pub record Leaves {I : Type 0} (A : Axis Mark Box) (f : ℕ → Mark) (place : ℕ → ℕ) (C : ℕ) (xs : List ℕ) (a : Arm) (ys : List ℕ) (t : Tree ℕ I) : Type 0 where
   pub is : a ≡ armOf A f t
   pub held : Held A f place C ys t
-  pub frame : Frame place (λ s. 0 < times s t) (runPlace C 0) (runPlace C C) xs ys
+  pub frame : Frame place (Names t) (runPlace C 0) (runPlace C C) xs ys

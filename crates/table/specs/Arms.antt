@@ -1,7 +1,7 @@
 -- Numbers of nodes, arms and records, of main and auxiliary trees alike (docs/LAYOUT.md, "Arms and records"). Assumes nothing.
 use Prim.Native.Nat.{ℕ, _+_, _*_, _%_}
 use mathlib.Core.List.{List, [], _∷_}
-use lib.Dec.{leb}
+use lib.Dec.{leb, ltb}
 use lib.ListN.{length, getD}
 use lib.Seq.{sets}
 use Rattle.model.specs.Lists.{if_then_else_}
@@ -36,6 +36,17 @@ leafArm s v = arm (leafNumber s) 1 v v
 
 unfoldable pub overArm : ℕ → Arm → Arm → Arm
 overArm name l r = arm (innerNumber name) (sum (l .weight) (r .weight)) (l .least) (r .greatest)
+
+-- the lesser and the greater of two coordinates
+unfoldable pub lesser : ℕ → ℕ → ℕ
+lesser a b = if ltb b a then b else a
+
+unfoldable pub greater : ℕ → ℕ → ℕ
+greater a b = if ltb a b then b else a
+
+-- the same root with one mark more, at the coordinate v
+unfoldable pub grownArm : Arm → ℕ → Arm
+grownArm a v = arm (a .node) (sum (a .weight) 1) (lesser (a .least) v) (greater (a .greatest) v)
 
 -- an inner node's record: the arms of its children
 pub record Record : Type 0 where

@@ -15,7 +15,6 @@ ghost use Rattle.table.specs.Arms.{
   putRecord,
 };
 ghost use Rattle.table.specs.Values.{primaryArm, primaryRecord, secondaryArm};
-use crate::secondary::Secondary;
 use crate::secondary::SecondaryArm;
 use crate::weights;
 
@@ -152,30 +151,13 @@ impl PrimaryRecord {
     pub fn auxiliary(t: &[u32], name: u32) -> SecondaryArm
         ensures { λ r. ⌜ secondaryArm r ≡ armAt (now (t .entry)) (auxiliaryPlace name) ⌝ }
     {
-        let at = 75 + 16 * (name as usize);
-        if at + 4 <= t.len() {
-            SecondaryArm {
-                node: Secondary(t[at]),
-                weight: t[at + 1],
-                least: t[at + 2],
-                greatest: t[at + 3],
-            }
-        } else {
-            SecondaryArm::none()
-        }
+        SecondaryArm::at(t, 75 + 16 * (name as usize))
     }
 
     pub fn put_auxiliary(t: &mut [u32], name: u32, a: SecondaryArm)
         ensures { λ _. ⌜ now (t .exit) ≡ putArm (now (t .entry)) (auxiliaryPlace name) (secondaryArm a) ⌝ }
     {
-        let at = 75 + 16 * (name as usize);
-        if at + 4 <= t.len() {
-            let n = a.node;
-            t[at] = n.0;
-            t[at + 1] = a.weight;
-            t[at + 2] = a.least;
-            t[at + 3] = a.greatest;
-        }
+        SecondaryArm::put(t, 75 + 16 * (name as usize), a);
     }
 }
 

@@ -1,9 +1,9 @@
 // Nodes of auxiliary trees (000's secondary nodes): numbers, arms and records.
 ghost use mathlib.Core.Path.{_≡_};
-ghost use Prim.Native.Nat.{_/_, _%_};
+ghost use Prim.Native.Nat.{_/_, _%_, _<_, _^_};
 ghost use lib.Dec.{eqb};
 ghost use Rattle.table.specs.Layout.{recordPlace};
-ghost use Rattle.table.specs.Arms.{leafNumber, innerNumber, noArm, leafArm, overArm, recordAt, putRecord};
+ghost use Rattle.table.specs.Arms.{leafNumber, innerNumber, noArm, leafArm, overArm, grownArm, armAt, putArm, recordAt, putRecord};
 ghost use Rattle.table.specs.Values.{secondaryArm, secondaryRecord};
 use crate::weights;
 
@@ -87,6 +87,52 @@ impl SecondaryArm {
             weight,
             least: l.least,
             greatest: r.greatest,
+        }
+    }
+
+    // The same root with one mark more, at the coordinate v.
+    pub fn grown(self, v: u32) -> SecondaryArm
+        ensures { λ r. ⌜ secondaryArm r ≡ grownArm (secondaryArm self) v ⌝ }
+    {
+        let node = self.node;
+        let weight = weights::sum(self.weight, 1);
+        let least = weights::lesser(self.least, v);
+        let greatest = weights::greater(self.greatest, v);
+        SecondaryArm {
+            node,
+            weight,
+            least,
+            greatest,
+        }
+    }
+
+    // The arm at the word `at`.
+    pub fn at(t: &[u32], at: usize) -> SecondaryArm
+        requires { ⌜ at < 2 ^ 60 ⌝ }
+        ensures { λ r. ⌜ secondaryArm r ≡ armAt (now (t .entry)) at ⌝ }
+    {
+        if at + 4 <= t.len() {
+            SecondaryArm {
+                node: Secondary(t[at]),
+                weight: t[at + 1],
+                least: t[at + 2],
+                greatest: t[at + 3],
+            }
+        } else {
+            SecondaryArm::none()
+        }
+    }
+
+    pub fn put(t: &mut [u32], at: usize, a: SecondaryArm)
+        requires { ⌜ at < 2 ^ 60 ⌝ }
+        ensures { λ _. ⌜ now (t .exit) ≡ putArm (now (t .entry)) at (secondaryArm a) ⌝ }
+    {
+        if at + 4 <= t.len() {
+            let n = a.node;
+            t[at] = n.0;
+            t[at + 1] = a.weight;
+            t[at + 2] = a.least;
+            t[at + 3] = a.greatest;
         }
     }
 }

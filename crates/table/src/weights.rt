@@ -3,7 +3,7 @@ ghost use mathlib.Core.Path.{_≡_};
 ghost use mathlib.Core.Bool.{not, _&&_};
 ghost use Prim.Native.Nat.{_+_, _*_, _-_};
 ghost use lib.Dec.{leb, eqb};
-ghost use Rattle.table.specs.Arms.{sum};
+ghost use Rattle.table.specs.Arms.{sum, lesser, greater};
 
 // The weight of a node over children of these weights.
 pub fn sum(l: u32, r: u32) -> u32
@@ -38,4 +38,17 @@ pub fn balanced(l: u32, r: u32) -> bool
         return w <= 4 * (r as u64);
     }
     false
+}
+
+// The ends of a cell: the lesser and the greater of two coordinates.
+pub fn lesser(a: u32, b: u32) -> u32
+    ensures { λ r. ⌜ r ≡ lesser a b ⌝ }
+{
+    if b < a { b } else { a }
+}
+
+pub fn greater(a: u32, b: u32) -> u32
+    ensures { λ r. ⌜ r ≡ greater a b ⌝ }
+{
+    if a < b { b } else { a }
 }

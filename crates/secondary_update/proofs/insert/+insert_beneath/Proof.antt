@@ -1,28 +1,38 @@
-use Prim.Native.Nat.{ℕ, _<_}
+use Rattle.secondary_update.specs.Insert.{insertAfresh, insertArm, insertNode, insertRecord, insertWay, insert♯, insert♯-zero, insert♯-suc}
+use native.Mathlib.Omega.{arith}
+use Prim.Native.Nat.{ℕ, _<_, _≤_, _^_}
 use borrow.Fn.Kinds.{In}
 use borrow.Fn.PlainCycle.{Measures, is, falls, and}
 use Rattle.secondary_update.proofs.insert.+insert_beneath.{statement}
 use Rattle.secondary_update.proofs.insert.+insert_beneath.Tie.{close}
-use Rattle.secondary_update.specs.Node.{balanced}
-use borrow.Author.Tests.{eq-eqb, ne-eqb}
-use Rattle.secondary_update.specs.Insert.{ifSound, insertLeft, insertNode, insertRecord, insertRight, insert♯-suc, insert♯-zero}
+use mathlib.Core.Path.{_≡_}
+use lib.ListN.{length}
+use Rattle.model.specs.Sheet.{alongY}
+use Rattle.geometry.specs.Values.{markValue}
+use Rattle.table.specs.Layout.{recordPlace}
 use borrow.Author.Needs.{needs}
-use Rattle.table.specs.Arms.{sum}
 use Rattle.secondary_update.proofs.insert.insert_beneath.Reads as insert-beneath
 use Rattle.secondary_update.proofs.insert.insert_beneath.Kinds as insert-beneath-kinds
 use Rattle.secondary_update.proofs.insert.+insert_beneath.Lts-insert_beneath as insert-beneath-lts
 use Rattle.geometry.proofs.Mark.below_y.Reads as below-y-reads
-use Rattle.secondary_update.proofs.insert.damaged.Reads as damaged-reads
+use Rattle.secondary_update.proofs.insert.afresh.Reads as afresh-reads
+use Rattle.secondary_update.proofs.insert.child_place.Reads as child-place-reads
 use Rattle.secondary_update.proofs.insert.split.Reads as split-reads
-use Rattle.secondary_update.proofs.node.both.Reads as both-reads
-use Rattle.secondary_update.proofs.node.join.Reads as join-reads
+use Rattle.secondary_update.proofs.insert.unsteady.Reads as unsteady-reads
 use Rattle.table.proofs.secondary.Secondary.is_leaf.Reads as is-leaf-reads
 use Rattle.table.proofs.secondary.Secondary.slot.Reads as slot-reads
-use Rattle.table.proofs.secondary.SecondaryRecord.at.Reads as at-reads
+use Rattle.table.proofs.secondary.SecondaryArm.at.Reads as secondary-SecondaryArm-at-reads
+use Rattle.table.proofs.secondary.SecondaryArm.grown.Reads as grown-reads
+use Rattle.table.proofs.secondary.SecondaryArm.put.Reads as put-reads
+use Rattle.table.proofs.secondary.SecondaryRecord.at.Reads as secondary-SecondaryRecord-at-reads
 use Rattle.table.proofs.slots.mark_at.Reads as mark-at-reads
-use Rattle.table.proofs.weights.balanced.Reads as balanced-reads
 use Rattle.table.proofs.weights.disagree.Reads as disagree-reads
-use Rattle.table.proofs.weights.sum.Reads as sum-reads
+
+positive : (n : ℕ) → 0 < n → n ≡ 0 → ⊥
+positive n h e = omega arith
+
+nothing : (n : ℕ) → n ≤ 0 → n ≡ 0
+nothing n h = omega arith
 
 abbrev μ-insert-beneath : Measures 1 insert-beneath-kinds.ps ℕ
 μ-insert-beneath κs a = a .1 .1 .1 .1 .1 .1 .0
@@ -43,225 +53,154 @@ insert-beneath-below t =
     (falls 1 insert-beneath-kinds.ps _<_ μ-insert-beneath t)
     insert-beneath.Pre
 
+abbrev insert-beneath-Inv-loop : insert-beneath-lts.InvT-loop
+insert-beneath-Inv-loop t₀ base start m s mends fuel at₀ left₀ t at left =
+    (length t ≡ length t₀) × (at < 2 ^ 40) × (left ≤ fuel)
+    × (insert♯ alongY left (recordPlace base) (markValue m) s mends at t ≡ insert♯ alongY fuel (recordPlace base) (markValue m) s mends at₀ t₀)
+
+abbrev insert-beneath-μ-loop : insert-beneath-lts.MeasureT-loop
+insert-beneath-μ-loop t₀ base start m s mends fuel at₀ left₀ t at left = left
+
 abbrev said : ℕ → insert-beneath-lts.Claims
-said t = (damaged-reads.Asked, damaged-reads.Learnt, is-leaf-reads.Asked, is-leaf-reads.Learnt, split-reads.Asked, split-reads.Learnt, slot-reads.Asked, slot-reads.Learnt, at-reads.Asked, at-reads.Learnt, disagree-reads.Asked, disagree-reads.Learnt, mark-at-reads.Asked, mark-at-reads.Learnt, below-y-reads.Asked, below-y-reads.Learnt, sum-reads.Asked, sum-reads.Learnt, balanced-reads.Asked, balanced-reads.Learnt, both-reads.Asked, both-reads.Learnt, insert-beneath-below t, insert-beneath.Post, join-reads.Asked, join-reads.Learnt)
+said t = (secondary-SecondaryArm-at-reads.Asked, secondary-SecondaryArm-at-reads.Learnt, is-leaf-reads.Asked, is-leaf-reads.Learnt, split-reads.Asked, split-reads.Learnt, slot-reads.Asked, slot-reads.Learnt, secondary-SecondaryRecord-at-reads.Asked, secondary-SecondaryRecord-at-reads.Learnt, disagree-reads.Asked, disagree-reads.Learnt, mark-at-reads.Asked, mark-at-reads.Learnt, below-y-reads.Asked, below-y-reads.Learnt, unsteady-reads.Asked, unsteady-reads.Learnt, insert-beneath-below t, insert-beneath.Post, afresh-reads.Asked, afresh-reads.Learnt, grown-reads.Asked, grown-reads.Learnt, put-reads.Asked, put-reads.Learnt, child-place-reads.Asked, child-place-reads.Learnt)
 
--- src/insert.rt:51:9
-insert-beneath-damaged-requires : (t : ℕ) → insert-beneath-lts.Need-damaged-requires (said t) (insert-beneath-at t) insert-beneath.Post
-insert-beneath-damaged-requires t c κs = search needs
+-- src/insert.rt:96:5
+insert-beneath-loop-holds : (t : ℕ) → insert-beneath-lts.Need-loop-holds (said t) (insert-beneath-at t) insert-beneath.Post insert-beneath-Inv-loop insert-beneath-μ-loop
+insert-beneath-loop-holds t c = search needs
 
--- src/insert.rt:51:9
-insert-beneath-returns : (t : ℕ) → insert-beneath-lts.Need-returns (said t) (insert-beneath-at t) insert-beneath.Post
-unfolding insertNode insertRecord insertLeft insertRight ifSound
-insert-beneath-returns t c = rw (insert♯-zero _ (c .before .if1 .taken), ← c .damaged .ensures)
+-- src/insert.rt:97:9
+insert-beneath-sub-left : (t : ℕ) → insert-beneath-lts.Need-sub-left (said t) (insert-beneath-at t) insert-beneath.Post insert-beneath-Inv-loop insert-beneath-μ-loop
+insert-beneath-sub-left t c = search needs
 
--- src/insert.rt:54:8
-insert-beneath-is-leaf-requires : (t : ℕ) → insert-beneath-lts.Need-is-leaf-requires (said t) (insert-beneath-at t) insert-beneath.Post
-insert-beneath-is-leaf-requires t c κs = search needs
-
--- src/insert.rt:55:9
-insert-beneath-split-requires : (t : ℕ) → insert-beneath-lts.Need-split-requires (said t) (insert-beneath-at t) insert-beneath.Post
-insert-beneath-split-requires t c κs = search needs
-
--- src/insert.rt:55:9
-insert-beneath-same-length : (t : ℕ) → insert-beneath-lts.Need-same-length (said t) (insert-beneath-at t) insert-beneath.Post
-insert-beneath-same-length t c = search needs
-
--- src/insert.rt:55:9
-insert-beneath-returns-2 : (t : ℕ) → insert-beneath-lts.Need-returns-2 (said t) (insert-beneath-at t) insert-beneath.Post
-unfolding insertNode insertRecord insertLeft insertRight ifSound
-insert-beneath-returns-2 t c = rw (insert♯-suc _ (c .before .before .before .before .before .before .before .if1 .left), ← c .before .before .before .before .before .is-leaf .ensures, c .before .before .before .before .if2 .taken, ← c .before .before .split .ensures)
-
--- src/insert.rt:57:9
-insert-beneath-slot-requires : (t : ℕ) → insert-beneath-lts.Need-slot-requires (said t) (insert-beneath-at t) insert-beneath.Post
-insert-beneath-slot-requires t c κs = search needs
-
--- src/insert.rt:58:9
-insert-beneath-at-requires : (t : ℕ) → insert-beneath-lts.Need-at-requires (said t) (insert-beneath-at t) insert-beneath.Post
+-- src/insert.rt:98:13
+insert-beneath-at-requires : (t : ℕ) → insert-beneath-lts.Need-at-requires (said t) (insert-beneath-at t) insert-beneath.Post insert-beneath-Inv-loop insert-beneath-μ-loop
 insert-beneath-at-requires t c κs = search needs
 
--- src/insert.rt:61:8
-insert-beneath-disagree-requires : (t : ℕ) → insert-beneath-lts.Need-disagree-requires (said t) (insert-beneath-at t) insert-beneath.Post
+-- src/insert.rt:100:12
+insert-beneath-is-leaf-requires : (t : ℕ) → insert-beneath-lts.Need-is-leaf-requires (said t) (insert-beneath-at t) insert-beneath.Post insert-beneath-Inv-loop insert-beneath-μ-loop
+insert-beneath-is-leaf-requires t c κs = search needs
+
+-- src/insert.rt:101:13
+insert-beneath-split-requires : (t : ℕ) → insert-beneath-lts.Need-split-requires (said t) (insert-beneath-at t) insert-beneath.Post insert-beneath-Inv-loop insert-beneath-μ-loop
+insert-beneath-split-requires t c κs = search needs
+
+-- src/insert.rt:102:13
+insert-beneath-same-length : (t : ℕ) → insert-beneath-lts.Need-same-length (said t) (insert-beneath-at t) insert-beneath.Post insert-beneath-Inv-loop insert-beneath-μ-loop
+insert-beneath-same-length t c = search needs
+
+-- src/insert.rt:102:13
+insert-beneath-returns : (t : ℕ) → insert-beneath-lts.Need-returns (said t) (insert-beneath-at t) insert-beneath.Post insert-beneath-Inv-loop insert-beneath-μ-loop
+unfolding insertNode insertArm insertRecord insertWay insertAfresh
+insert-beneath-returns t c = rw (← c .before .before .before .before .before .before .before .before .before .before .loop .inv .3, insert♯-suc _ (positive _ (c .before .before .before .before .before .before .before .before .before .loop-test .taken)), ← c .before .before .before .before .before .before .before .at .ensures, ← c .before .before .before .before .before .is-leaf .ensures, c .before .before .before .before .if1 .taken, ← c .before .before .split .ensures)
+
+-- src/insert.rt:104:13
+insert-beneath-slot-requires : (t : ℕ) → insert-beneath-lts.Need-slot-requires (said t) (insert-beneath-at t) insert-beneath.Post insert-beneath-Inv-loop insert-beneath-μ-loop
+insert-beneath-slot-requires t c κs = search needs
+
+-- src/insert.rt:105:13
+insert-beneath-at-requires-2 : (t : ℕ) → insert-beneath-lts.Need-at-requires-2 (said t) (insert-beneath-at t) insert-beneath.Post insert-beneath-Inv-loop insert-beneath-μ-loop
+insert-beneath-at-requires-2 t c κs = search needs
+
+-- src/insert.rt:108:12
+insert-beneath-disagree-requires : (t : ℕ) → insert-beneath-lts.Need-disagree-requires (said t) (insert-beneath-at t) insert-beneath.Post insert-beneath-Inv-loop insert-beneath-μ-loop
 insert-beneath-disagree-requires t c κs = search needs
 
--- src/insert.rt:62:9
-insert-beneath-damaged-requires-2 : (t : ℕ) → insert-beneath-lts.Need-damaged-requires-2 (said t) (insert-beneath-at t) insert-beneath.Post
-insert-beneath-damaged-requires-2 t c κs = search needs
-
--- src/insert.rt:62:9
-insert-beneath-same-length-2 : (t : ℕ) → insert-beneath-lts.Need-same-length-2 (said t) (insert-beneath-at t) insert-beneath.Post
+-- src/insert.rt:109:13
+insert-beneath-same-length-2 : (t : ℕ) → insert-beneath-lts.Need-same-length-2 (said t) (insert-beneath-at t) insert-beneath.Post insert-beneath-Inv-loop insert-beneath-μ-loop
 insert-beneath-same-length-2 t c = search needs
 
--- src/insert.rt:62:9
-insert-beneath-returns-3 : (t : ℕ) → insert-beneath-lts.Need-returns-3 (said t) (insert-beneath-at t) insert-beneath.Post
-unfolding insertNode insertRecord insertLeft insertRight ifSound
-insert-beneath-returns-3 t c = rw (insert♯-suc _ (c .before .before .before .before .before .before .before .before .before .before .before .if1 .left), ← c .before .before .before .before .before .before .before .before .before .is-leaf .ensures, c .before .before .before .before .before .before .before .before .if2 .left, ← c .before .before .before .before .before .before .before .slot .ensures, ← c .before .before .before .before .before .at .ensures, ← c .before .before .disagree .ensures, c .before .if3 .taken, ← c .damaged2 .ensures)
+-- src/insert.rt:109:13
+insert-beneath-returns-2 : (t : ℕ) → insert-beneath-lts.Need-returns-2 (said t) (insert-beneath-at t) insert-beneath.Post insert-beneath-Inv-loop insert-beneath-μ-loop
+unfolding insertNode insertArm insertRecord insertWay insertAfresh
+insert-beneath-returns-2 t c = rw (← c .before .before .before .before .before .before .before .before .before .before .before .before .before .loop .inv .3, insert♯-suc _ (positive _ (c .before .before .before .before .before .before .before .before .before .before .before .before .loop-test .taken)), ← c .before .before .before .before .before .before .before .before .before .before .at .ensures, ← c .before .before .before .before .before .before .before .before .is-leaf .ensures, c .before .before .before .before .before .before .before .if1 .left, ← c .before .before .before .before .before .before .slot .ensures, ← c .before .before .before .before .at2 .ensures, ← c .before .disagree .ensures, c .if2 .taken)
 
--- src/insert.rt:64:18
-insert-beneath-mark-at-requires : (t : ℕ) → insert-beneath-lts.Need-mark-at-requires (said t) (insert-beneath-at t) insert-beneath.Post
+-- src/insert.rt:111:31
+insert-beneath-mark-at-requires : (t : ℕ) → insert-beneath-lts.Need-mark-at-requires (said t) (insert-beneath-at t) insert-beneath.Post insert-beneath-Inv-loop insert-beneath-μ-loop
 insert-beneath-mark-at-requires t c κs = search needs
 
--- src/insert.rt:64:8
-insert-beneath-below-y-requires : (t : ℕ) → insert-beneath-lts.Need-below-y-requires (said t) (insert-beneath-at t) insert-beneath.Post
+-- src/insert.rt:111:13
+insert-beneath-below-y-requires : (t : ℕ) → insert-beneath-lts.Need-below-y-requires (said t) (insert-beneath-at t) insert-beneath.Post insert-beneath-Inv-loop insert-beneath-μ-loop
 insert-beneath-below-y-requires t c κs = search needs
 
--- src/insert.rt:65:45
-insert-beneath-sum-requires : (t : ℕ) → insert-beneath-lts.Need-sum-requires (said t) (insert-beneath-at t) insert-beneath.Post
-insert-beneath-sum-requires t c κs = search needs
+-- src/insert.rt:112:12
+insert-beneath-unsteady-requires : (t : ℕ) → insert-beneath-lts.Need-unsteady-requires (said t) (insert-beneath-at t) insert-beneath.Post insert-beneath-Inv-loop insert-beneath-μ-loop
+insert-beneath-unsteady-requires t c κs = search needs
 
--- src/insert.rt:65:13
-insert-beneath-balanced-requires : (t : ℕ) → insert-beneath-lts.Need-balanced-requires (said t) (insert-beneath-at t) insert-beneath.Post
-insert-beneath-balanced-requires t c κs = search needs
+-- src/insert.rt:113:17
+insert-beneath-insert-beneath-requires : (t : ℕ) → insert-beneath-lts.Need-insert-beneath-requires (said t) (insert-beneath-at t) insert-beneath.Post insert-beneath-Inv-loop insert-beneath-μ-loop
+insert-beneath-insert-beneath-requires t c κs = search (needs, c .before .before .before .before .before .before .before .before .before .before .before .before .before .before .before .before .before .before .before .loop .inv, c .before .before .before .before .before .before .before .before .before .before .before .before .before .before .before .before .before .before .loop-test .taken, c .before .before .before .before .before .before .before .before .before .before .before .before .before .before .before .before .before .before .before .before .before .pre)
 
--- src/insert.rt:66:50
-insert-beneath-both-requires : (t : ℕ) → insert-beneath-lts.Need-both-requires (said t) (insert-beneath-at t) insert-beneath.Post
-insert-beneath-both-requires t c κs = search needs
+-- src/insert.rt:114:13
+insert-beneath-afresh-requires : (t : ℕ) → insert-beneath-lts.Need-afresh-requires (said t) (insert-beneath-at t) insert-beneath.Post insert-beneath-Inv-loop insert-beneath-μ-loop
+insert-beneath-afresh-requires t c κs = search (needs, c .before .before .before .before .before .before .before .before .before .before .before .before .before .before .before .before .before .before .before .before .before .before .before .loop .inv)
 
--- src/insert.rt:66:75
-insert-beneath-sub-insert-beneath : (t : ℕ) → insert-beneath-lts.Need-sub-insert-beneath (said t) (insert-beneath-at t) insert-beneath.Post
-insert-beneath-sub-insert-beneath t c = search needs
+-- src/insert.rt:114:13
+insert-beneath-same-length-3 : (t : ℕ) → insert-beneath-lts.Need-same-length-3 (said t) (insert-beneath-at t) insert-beneath.Post insert-beneath-Inv-loop insert-beneath-μ-loop
+insert-beneath-same-length-3 t c = search (needs, c .before .before .before .before .before .before .before .before .before .before .before .before .before .before .before .before .before .before .before .before .before .before .before .before .before .before .loop .inv .0)
 
--- src/insert.rt:66:13
-insert-beneath-insert-beneath-requires : (t : ℕ) → insert-beneath-lts.Need-insert-beneath-requires (said t) (insert-beneath-at t) insert-beneath.Post
-insert-beneath-insert-beneath-requires t c κs = search needs
+-- src/insert.rt:114:13
+insert-beneath-returns-3 : (t : ℕ) → insert-beneath-lts.Need-returns-3 (said t) (insert-beneath-at t) insert-beneath.Post insert-beneath-Inv-loop insert-beneath-μ-loop
+unfolding insertNode insertArm insertRecord insertWay insertAfresh
+insert-beneath-returns-3 t c = rw (← c .before .before .before .before .before .before .before .before .before .before .before .before .before .before .before .before .before .before .before .before .before .before .before .before .before .before .loop .inv .3, insert♯-suc _ (positive _ (c .before .before .before .before .before .before .before .before .before .before .before .before .before .before .before .before .before .before .before .before .before .before .before .before .before .loop-test .taken)), ← c .before .before .before .before .before .before .before .before .before .before .before .before .before .before .before .before .before .before .before .before .before .before .before .at .ensures, ← c .before .before .before .before .before .before .before .before .before .before .before .before .before .before .before .before .before .before .before .before .before .is-leaf .ensures, c .before .before .before .before .before .before .before .before .before .before .before .before .before .before .before .before .before .before .before .before .if1 .left, ← c .before .before .before .before .before .before .before .before .before .before .before .before .before .before .before .before .before .before .before .slot .ensures, ← c .before .before .before .before .before .before .before .before .before .before .before .before .before .before .before .before .before .at2 .ensures, ← c .before .before .before .before .before .before .before .before .before .before .before .before .before .before .disagree .ensures, c .before .before .before .before .before .before .before .before .before .before .before .before .before .if2 .left, ← c .before .before .before .before .before .before .before .before .before .before .before .mark-at .ensures, ← c .before .before .before .before .before .before .before .before .before .before .below-y .ensures, ← c .before .before .before .before .before .before .before .before .before .unsteady .ensures, c .before .before .before .before .before .before .before .before .if3 .taken, ← c .before .before .before .before .before .before .insert-beneath .ensures, ← c .before .before .afresh .ensures)
 
--- src/insert.rt:69:13
-insert-beneath-damaged-requires-3 : (t : ℕ) → insert-beneath-lts.Need-damaged-requires-3 (said t) (insert-beneath-at t) insert-beneath.Post
-insert-beneath-damaged-requires-3 t c κs = search needs
+-- src/insert.rt:116:34
+insert-beneath-grown-requires : (t : ℕ) → insert-beneath-lts.Need-grown-requires (said t) (insert-beneath-at t) insert-beneath.Post insert-beneath-Inv-loop insert-beneath-μ-loop
+insert-beneath-grown-requires t c κs = search needs
 
--- src/insert.rt:69:13
-insert-beneath-same-length-3 : (t : ℕ) → insert-beneath-lts.Need-same-length-3 (said t) (insert-beneath-at t) insert-beneath.Post
-insert-beneath-same-length-3 t c = search needs
+-- src/insert.rt:116:9
+insert-beneath-put-requires : (t : ℕ) → insert-beneath-lts.Need-put-requires (said t) (insert-beneath-at t) insert-beneath.Post insert-beneath-Inv-loop insert-beneath-μ-loop
+insert-beneath-put-requires t c κs = search (needs, c .before .before .before .before .before .before .before .before .before .before .before .before .before .before .before .before .before .before .before .before .loop .inv)
 
--- src/insert.rt:69:13
-insert-beneath-returns-4 : (t : ℕ) → insert-beneath-lts.Need-returns-4 (said t) (insert-beneath-at t) insert-beneath.Post
-unfolding insertNode insertRecord insertLeft insertRight ifSound
-insert-beneath-returns-4 t c = rw (insert♯-suc _ (c .before .before .before .before .before .before .before .before .before .before .before .before .before .before .before .before .before .before .before .before .before .before .before .before .before .if1 .left), ← c .before .before .before .before .before .before .before .before .before .before .before .before .before .before .before .before .before .before .before .before .before .before .before .is-leaf .ensures, c .before .before .before .before .before .before .before .before .before .before .before .before .before .before .before .before .before .before .before .before .before .before .if2 .left, ← c .before .before .before .before .before .before .before .before .before .before .before .before .before .before .before .before .before .before .before .before .before .slot .ensures, ← c .before .before .before .before .before .before .before .before .before .before .before .before .before .before .before .before .before .before .before .at .ensures, ← c .before .before .before .before .before .before .before .before .before .before .before .before .before .before .before .before .disagree .ensures, c .before .before .before .before .before .before .before .before .before .before .before .before .before .before .before .if3 .left, ← c .before .before .before .before .before .before .before .before .before .before .before .before .before .mark-at .ensures, ← c .before .before .before .before .before .before .before .before .before .before .before .before .below-y .ensures, c .before .before .before .before .before .before .before .before .before .before .before .if4 .taken, ← c .before .before .before .before .before .before .before .before .before .before .sum .ensures, ← c .before .before .before .before .before .before .before .before .before .balanced .ensures, ← c .before .before .before .before .before .before .before .both .ensures, ← c .before .before .before .before .before .before .insert-beneath .ensures, eq-eqb _ _ (c .before .if5 .taken), ← c .damaged3 .ensures)
+-- src/insert.rt:117:9
+insert-beneath-child-place-requires : (t : ℕ) → insert-beneath-lts.Need-child-place-requires (said t) (insert-beneath-at t) insert-beneath.Post insert-beneath-Inv-loop insert-beneath-μ-loop
+insert-beneath-child-place-requires t c κs = search needs
 
--- src/insert.rt:71:9
-insert-beneath-join-requires : (t : ℕ) → insert-beneath-lts.Need-join-requires (said t) (insert-beneath-at t) insert-beneath.Post
-insert-beneath-join-requires t c κs = search needs
+-- src/insert.rt:96:5
+insert-beneath-loop-less : (t : ℕ) → insert-beneath-lts.Need-loop-less (said t) (insert-beneath-at t) insert-beneath.Post insert-beneath-Inv-loop insert-beneath-μ-loop
+insert-beneath-loop-less t c = omega (arith, c .before .before .before .before .before .before .before .before .before .before .before .before .before .before .before .before .before .before .before .before .before .before .before .loop-test .taken)
 
--- src/insert.rt:71:9
-insert-beneath-same-length-4 : (t : ℕ) → insert-beneath-lts.Need-same-length-4 (said t) (insert-beneath-at t) insert-beneath.Post
+-- src/insert.rt:96:5
+insert-beneath-loop-again : (t : ℕ) → insert-beneath-lts.Need-loop-again (said t) (insert-beneath-at t) insert-beneath.Post insert-beneath-Inv-loop insert-beneath-μ-loop
+unfolding insertNode insertArm insertRecord insertWay insertAfresh
+insert-beneath-loop-again t c = (search (needs, c .before .before .before .before .before .before .before .before .before .before .before .before .before .before .before .before .before .before .before .before .before .before .before .before .loop .inv .0), c .child-place .ensures .1, omega (arith, c .before .before .before .before .before .before .before .before .before .before .before .before .before .before .before .before .before .before .before .before .before .before .before .before .loop .inv .2), rw (← c .before .before .before .before .before .before .before .before .before .before .before .before .before .before .before .before .before .before .before .before .before .before .before .before .loop .inv .3, insert♯-suc _ (positive _ (c .before .before .before .before .before .before .before .before .before .before .before .before .before .before .before .before .before .before .before .before .before .before .before .loop-test .taken)), ← c .before .before .before .before .before .before .before .before .before .before .before .before .before .before .before .before .before .before .before .before .before .at .ensures, ← c .before .before .before .before .before .before .before .before .before .before .before .before .before .before .before .before .before .before .before .is-leaf .ensures, c .before .before .before .before .before .before .before .before .before .before .before .before .before .before .before .before .before .before .if1 .left, ← c .before .before .before .before .before .before .before .before .before .before .before .before .before .before .before .before .before .slot .ensures, ← c .before .before .before .before .before .before .before .before .before .before .before .before .before .before .before .at2 .ensures, ← c .before .before .before .before .before .before .before .before .before .before .before .before .disagree .ensures, c .before .before .before .before .before .before .before .before .before .before .before .if2 .left, ← c .before .before .before .before .before .before .before .before .before .mark-at .ensures, ← c .before .before .before .before .before .before .before .before .below-y .ensures, ← c .before .before .before .before .before .before .before .unsteady .ensures, c .before .before .before .before .before .before .if3 .left, ← c .before .before .before .before .grown .ensures, ← c .before .before .before .put .ensures, ← c .child-place .ensures .0))
+
+-- src/insert.rt:82:1
+insert-beneath-same-length-4 : (t : ℕ) → insert-beneath-lts.Need-same-length-4 (said t) (insert-beneath-at t) insert-beneath.Post insert-beneath-Inv-loop insert-beneath-μ-loop
 insert-beneath-same-length-4 t c = search needs
 
--- src/insert.rt:71:9
-insert-beneath-returns-5 : (t : ℕ) → insert-beneath-lts.Need-returns-5 (said t) (insert-beneath-at t) insert-beneath.Post
-unfolding insertNode insertRecord insertLeft insertRight ifSound
-insert-beneath-returns-5 t c = rw (insert♯-suc _ (c .before .before .before .before .before .before .before .before .before .before .before .before .before .before .before .before .before .before .before .before .before .before .before .before .before .before .before .before .if1 .left), ← c .before .before .before .before .before .before .before .before .before .before .before .before .before .before .before .before .before .before .before .before .before .before .before .before .before .before .is-leaf .ensures, c .before .before .before .before .before .before .before .before .before .before .before .before .before .before .before .before .before .before .before .before .before .before .before .before .before .if2 .left, ← c .before .before .before .before .before .before .before .before .before .before .before .before .before .before .before .before .before .before .before .before .before .before .before .before .slot .ensures, ← c .before .before .before .before .before .before .before .before .before .before .before .before .before .before .before .before .before .before .before .before .before .before .at .ensures, ← c .before .before .before .before .before .before .before .before .before .before .before .before .before .before .before .before .before .before .before .disagree .ensures, c .before .before .before .before .before .before .before .before .before .before .before .before .before .before .before .before .before .before .if3 .left, ← c .before .before .before .before .before .before .before .before .before .before .before .before .before .before .before .before .mark-at .ensures, ← c .before .before .before .before .before .before .before .before .before .before .before .before .before .before .before .below-y .ensures, c .before .before .before .before .before .before .before .before .before .before .before .before .before .before .if4 .taken, ← c .before .before .before .before .before .before .before .before .before .before .before .before .before .sum .ensures, ← c .before .before .before .before .before .before .before .before .before .before .before .before .balanced .ensures, ← c .before .before .before .before .before .before .before .before .before .before .both .ensures, ← c .before .before .before .before .before .before .before .before .before .insert-beneath .ensures, ne-eqb _ _ (c .before .before .before .before .if5 .left), ← c .before .before .join .ensures)
-
--- src/insert.rt:73:51
-insert-beneath-sum-requires-2 : (t : ℕ) → insert-beneath-lts.Need-sum-requires-2 (said t) (insert-beneath-at t) insert-beneath.Post
-insert-beneath-sum-requires-2 t c κs = search needs
-
--- src/insert.rt:73:9
-insert-beneath-balanced-requires-2 : (t : ℕ) → insert-beneath-lts.Need-balanced-requires-2 (said t) (insert-beneath-at t) insert-beneath.Post
-insert-beneath-balanced-requires-2 t c κs = search needs
-
--- src/insert.rt:74:46
-insert-beneath-both-requires-2 : (t : ℕ) → insert-beneath-lts.Need-both-requires-2 (said t) (insert-beneath-at t) insert-beneath.Post
-insert-beneath-both-requires-2 t c κs = search needs
-
--- src/insert.rt:74:71
-insert-beneath-sub-insert-beneath-2 : (t : ℕ) → insert-beneath-lts.Need-sub-insert-beneath-2 (said t) (insert-beneath-at t) insert-beneath.Post
-insert-beneath-sub-insert-beneath-2 t c = search needs
-
--- src/insert.rt:74:9
-insert-beneath-insert-beneath-requires-2 :
-    (t : ℕ) → insert-beneath-lts.Need-insert-beneath-requires-2 (
-      damaged-reads.Asked,
-      damaged-reads.Learnt,
-      is-leaf-reads.Asked,
-      is-leaf-reads.Learnt,
-      split-reads.Asked,
-      split-reads.Learnt,
-      slot-reads.Asked,
-      slot-reads.Learnt,
-      at-reads.Asked,
-      at-reads.Learnt,
-      disagree-reads.Asked,
-      disagree-reads.Learnt,
-      mark-at-reads.Asked,
-      mark-at-reads.Learnt,
-      below-y-reads.Asked,
-      below-y-reads.Learnt,
-      sum-reads.Asked,
-      sum-reads.Learnt,
-      balanced-reads.Asked,
-      balanced-reads.Learnt,
-      both-reads.Asked,
-      both-reads.Learnt,
-      insert-beneath-below t,
-      insert-beneath.Post,
-      join-reads.Asked,
-      join-reads.Learnt,
-    ) (insert-beneath-at t) insert-beneath.Post
-insert-beneath-insert-beneath-requires-2 t c κs = search needs
-
--- src/insert.rt:77:9
-insert-beneath-damaged-requires-4 : (t : ℕ) → insert-beneath-lts.Need-damaged-requires-4 (said t) (insert-beneath-at t) insert-beneath.Post
-insert-beneath-damaged-requires-4 t c κs = search needs
-
--- src/insert.rt:77:9
-insert-beneath-same-length-5 : (t : ℕ) → insert-beneath-lts.Need-same-length-5 (said t) (insert-beneath-at t) insert-beneath.Post
-insert-beneath-same-length-5 t c = search needs
-
--- src/insert.rt:77:9
-insert-beneath-returns-6 : (t : ℕ) → insert-beneath-lts.Need-returns-6 (said t) (insert-beneath-at t) insert-beneath.Post
-unfolding insertNode insertRecord insertLeft insertRight ifSound
-insert-beneath-returns-6 t c = rw (insert♯-suc _ (c .before .before .before .before .before .before .before .before .before .before .before .before .before .before .before .before .before .before .before .before .before .before .before .before .before .if1 .left), ← c .before .before .before .before .before .before .before .before .before .before .before .before .before .before .before .before .before .before .before .before .before .before .before .is-leaf .ensures, c .before .before .before .before .before .before .before .before .before .before .before .before .before .before .before .before .before .before .before .before .before .before .if2 .left, ← c .before .before .before .before .before .before .before .before .before .before .before .before .before .before .before .before .before .before .before .before .before .slot .ensures, ← c .before .before .before .before .before .before .before .before .before .before .before .before .before .before .before .before .before .before .before .at .ensures, ← c .before .before .before .before .before .before .before .before .before .before .before .before .before .before .before .before .disagree .ensures, c .before .before .before .before .before .before .before .before .before .before .before .before .before .before .before .if3 .left, ← c .before .before .before .before .before .before .before .before .before .before .before .before .before .mark-at .ensures, ← c .before .before .before .before .before .before .before .before .before .before .before .before .below-y .ensures, c .before .before .before .before .before .before .before .before .before .before .before .if4 .left, ← c .before .before .before .before .before .before .before .before .before .before .sum2 .ensures, ← c .before .before .before .before .before .before .before .before .before .balanced2 .ensures, ← c .before .before .before .before .before .before .before .both2 .ensures, ← c .before .before .before .before .before .before .insert-beneath2 .ensures, eq-eqb _ _ (c .before .if6 .taken), ← c .damaged4 .ensures)
-
--- src/insert.rt:79:5
-insert-beneath-join-requires-2 : (t : ℕ) → insert-beneath-lts.Need-join-requires-2 (said t) (insert-beneath-at t) insert-beneath.Post
-insert-beneath-join-requires-2 t c κs = search needs
-
--- src/insert.rt:39:1
-insert-beneath-same-length-6 : (t : ℕ) → insert-beneath-lts.Need-same-length-6 (said t) (insert-beneath-at t) insert-beneath.Post
-insert-beneath-same-length-6 t c = search needs
-
--- src/insert.rt:39:1
-insert-beneath-returns-7 : (t : ℕ) → insert-beneath-lts.Need-returns-7 (said t) (insert-beneath-at t) insert-beneath.Post
-unfolding insertNode insertRecord insertLeft insertRight ifSound
-insert-beneath-returns-7 t c = rw (insert♯-suc _ (c .before .before .before .before .before .before .before .before .before .before .before .before .before .before .before .before .before .before .before .before .before .before .before .before .before .before .before .before .if1 .left), ← c .before .before .before .before .before .before .before .before .before .before .before .before .before .before .before .before .before .before .before .before .before .before .before .before .before .before .is-leaf .ensures, c .before .before .before .before .before .before .before .before .before .before .before .before .before .before .before .before .before .before .before .before .before .before .before .before .before .if2 .left, ← c .before .before .before .before .before .before .before .before .before .before .before .before .before .before .before .before .before .before .before .before .before .before .before .before .slot .ensures, ← c .before .before .before .before .before .before .before .before .before .before .before .before .before .before .before .before .before .before .before .before .before .before .at .ensures, ← c .before .before .before .before .before .before .before .before .before .before .before .before .before .before .before .before .before .before .before .disagree .ensures, c .before .before .before .before .before .before .before .before .before .before .before .before .before .before .before .before .before .before .if3 .left, ← c .before .before .before .before .before .before .before .before .before .before .before .before .before .before .before .before .mark-at .ensures, ← c .before .before .before .before .before .before .before .before .before .before .before .before .before .before .before .below-y .ensures, c .before .before .before .before .before .before .before .before .before .before .before .before .before .before .if4 .left, ← c .before .before .before .before .before .before .before .before .before .before .before .before .before .sum2 .ensures, ← c .before .before .before .before .before .before .before .before .before .before .before .before .balanced2 .ensures, ← c .before .before .before .before .before .before .before .before .before .before .both2 .ensures, ← c .before .before .before .before .before .before .before .before .before .insert-beneath2 .ensures, ne-eqb _ _ (c .before .before .before .before .if6 .left), ← c .before .before .join2 .ensures)
+-- src/insert.rt:82:1
+insert-beneath-returns-4 : (t : ℕ) → insert-beneath-lts.Need-returns-4 (said t) (insert-beneath-at t) insert-beneath.Post insert-beneath-Inv-loop insert-beneath-μ-loop
+insert-beneath-returns-4 t c = rw (← c .before .loop .inv .3, insert♯-zero _ (nothing _ (c .loop-test .left)))
 
 pub +insert-beneath-spec : {M : Type 1} → statement M
 +insert-beneath-spec = close μ-insert-beneath λ t. insert-beneath-lts.spec (said t)
     (insert-beneath-at t)
     insert-beneath.Post
-    (insert-beneath-damaged-requires t)
-    (insert-beneath-returns t)
+    insert-beneath-Inv-loop
+    insert-beneath-μ-loop
+    (insert-beneath-loop-holds t)
+    (insert-beneath-sub-left t)
+    (insert-beneath-at-requires t)
     (insert-beneath-is-leaf-requires t)
     (insert-beneath-split-requires t)
     (insert-beneath-same-length t)
-    (insert-beneath-returns-2 t)
+    (insert-beneath-returns t)
     (insert-beneath-slot-requires t)
-    (insert-beneath-at-requires t)
+    (insert-beneath-at-requires-2 t)
     (insert-beneath-disagree-requires t)
-    (insert-beneath-damaged-requires-2 t)
     (insert-beneath-same-length-2 t)
-    (insert-beneath-returns-3 t)
+    (insert-beneath-returns-2 t)
     (insert-beneath-mark-at-requires t)
     (insert-beneath-below-y-requires t)
-    (insert-beneath-sum-requires t)
-    (insert-beneath-balanced-requires t)
-    (insert-beneath-both-requires t)
-    (insert-beneath-sub-insert-beneath t)
+    (insert-beneath-unsteady-requires t)
     (insert-beneath-insert-beneath-requires t)
-    (insert-beneath-damaged-requires-3 t)
+    (insert-beneath-afresh-requires t)
     (insert-beneath-same-length-3 t)
-    (insert-beneath-returns-4 t)
-    (insert-beneath-join-requires t)
+    (insert-beneath-returns-3 t)
+    (insert-beneath-grown-requires t)
+    (insert-beneath-put-requires t)
+    (insert-beneath-child-place-requires t)
+    (insert-beneath-loop-less t)
+    (insert-beneath-loop-again t)
     (insert-beneath-same-length-4 t)
-    (insert-beneath-returns-5 t)
-    (insert-beneath-sum-requires-2 t)
-    (insert-beneath-balanced-requires-2 t)
-    (insert-beneath-both-requires-2 t)
-    (insert-beneath-sub-insert-beneath-2 t)
-    (insert-beneath-insert-beneath-requires-2 t)
-    (insert-beneath-damaged-requires-4 t)
-    (insert-beneath-same-length-5 t)
-    (insert-beneath-returns-6 t)
-    (insert-beneath-join-requires-2 t)
-    (insert-beneath-same-length-6 t)
-    (insert-beneath-returns-7 t)
+    (insert-beneath-returns-4 t)
