@@ -32,7 +32,8 @@ use Rattle.secondary_build.specs.Build.{rebuild♯}
 use Rattle.secondary_build.proofs.Building.{rebuild-holds}
 use Rattle.secondary_update.specs.Insert.{damaged, unsteady♯, childPlace, nodeAt, split♯, putFresh, afresh♯, Insertion, insertAfresh, insertWay, insertRecord, insertArm, insertNode, insert♯}
 use Rattle.secondary_update.proofs.Mending.{mended, figure, MayMend}
-use Rattle.secondary_update.proofs.Joining.{mended-marks, mended-times, mended-weight, mended-least, mayMend-left, mayMend-right, node-leaves}
+use Rattle.secondary_update.proofs.Mended.{mended-marks, mended-times, mended-weight, mended-least, mayMend-left, mayMend-right}
+use Rattle.secondary_update.proofs.Joining.{node-leaves}
 
 -- what insertion does to a tree, whatever the order
 module _ {B I : Type 0} (X : Axis ℕ B) (R : Register ℕ B I) (s : ℕ) where

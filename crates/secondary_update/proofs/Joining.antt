@@ -1,7 +1,7 @@
 -- One node of an update: the node over two trees that the words hold is written, and built afresh where mending is asked and it is not balanced. For
 -- any axis, any register and any places of records that form a region. Assumes nothing.
 use Prim.Native.Nat.{ℕ, _+_, _≤_, _<_}
-use mathlib.Core.Path.{_≡_, refl, sym, ap, subst, _∙_}
+use mathlib.Core.Path.{_≡_, refl, sym, subst, _∙_}
 use mathlib.Core.Bool.{Bool, true, false, not, _&&_}
 use mathlib.Core.List.{List, _++_}
 use mathlib.Core.Logic.{inl}
@@ -14,18 +14,19 @@ use Rattle.model.specs.Sheet.{Mark, Box}
 use Rattle.model.specs.Slots.{slotAxis}
 use Rattle.model.specs.Tree.{Tree, node, weight, depth, marks, least, evenly, build}
 use Rattle.model.proofs.Logic.{by-cases, clash}
-use Rattle.model.proofs.Tree.{weight-marks, marks-pos, build-marks, rebalance-marks}
+use Rattle.model.proofs.Tree.{marks-pos, build-marks}
 use Rattle.model.proofs.Rebalance.{rebalance-left, rebalance-right, rebuilt-left, rebuilt-right}
 use Rattle.table.specs.Layout.{capacityPlace, runPlace}
 use Rattle.table.specs.Arms.{Arm, overArm, putRecord}
-use Rattle.table.specs.Holds.{armOf, timesIn, times, Held}
+use Rattle.table.specs.Holds.{armOf, times, Held}
 use Rattle.table.specs.After.{After}
 use Rattle.table.proofs.Frames.{Region, Frame, frame-trans, frame-weaken, frame-run, frame-header, putRecord-frame}
-use Rattle.table.proofs.Held.{held-weight, held-least, overArm-of, held-frame, node-held, Names, least-marks, names-marks, names-left, names-right, names-own, Leaves}
+use Rattle.table.proofs.Held.{held-weight, held-least, overArm-of, held-frame, node-held, Names, names-marks, names-left, names-right, names-own, Leaves}
 use Rattle.secondary_build.proofs.Building.{rebuild-holds}
 use Rattle.secondary_update.specs.Updates.{Update}
 use Rattle.secondary_update.specs.Node.{afresh, join♯}
 use Rattle.secondary_update.proofs.Mending.{mended, figure, MayMend}
+use Rattle.secondary_update.proofs.Mended.{mended-times, mended-weight, mended-least, names-unmended, names-mended}
 
 -- the tree that a node over l and r becomes, and the figure, where `below` is that of the trees beneath
 module _ {I : Type 0} (A : Axis Mark Box) (f : ℕ → Mark) (R : Register ℕ Box I) where
@@ -39,43 +40,6 @@ module _ {I : Type 0} (A : Axis Mark Box) (f : ℕ → Mark) (place : ℕ → �
   -- an update of words xs leaves the tree t, and n is its figure
   abbrev pub Answers : List ℕ → After Update → Tree ℕ I → ℕ → Type 0
   Answers xs p t n = Leaves A f place C xs (p .out .arm) (p .words) t × (p .out .rebuilt ≡ n)
-
--- mending keeps the slots in their order
-module _ {B I : Type 0} (X : Axis ℕ B) (R : Register ℕ B I) where
-  pub mended-marks : (b : Bool) (t : Tree ℕ I) → marks (mended X R b t) ≡ marks t
-  mended-marks true t = rebalance-marks X R t
-  mended-marks false t = refl
-
-  pub mended-times : (b : Bool) (t : Tree ℕ I) (s : ℕ) → times s (mended X R b t) ≡ times s t
-  mended-times b t s = ap (timesIn s) (mended-marks b t)
-
-  pub mended-weight : (b : Bool) (t : Tree ℕ I) → weight (mended X R b t) ≡ weight t
-  mended-weight b t = weight-marks (mended X R b t) ∙ ap length (mended-marks b t) ∙ sym (weight-marks t)
-
-  pub mended-least : (b : Bool) (t : Tree ℕ I) → least (mended X R b t) ≡ least t
-  mended-least b t = least-marks (mended X R b t) t (mended-marks b t)
-
-  -- and so its names
-  pub names-unmended : (b : Bool) (t : Tree ℕ I) (s : ℕ) → Names (mended X R b t) s → Names t s
-  names-unmended b t = names-marks (mended X R b t) t (mended-marks b t)
-
-  pub names-mended : (b : Bool) (t : Tree ℕ I) (s : ℕ) → Names t s → Names (mended X R b t) s
-  names-mended b t = names-marks t (mended X R b t) (sym (mended-marks b t))
-
--- what may be mended at a node may be mended beneath it, and need not be
-module _ {M I : Type 0} where
-  pub mayMend-left : (mends : Bool) (i : I) (l r : Tree M I) → MayMend mends (node i l r) → MayMend mends l
-  mayMend-left true i l r b = b .2
-  mayMend-left false i l r b = tt
-
-  pub mayMend-right : (mends : Bool) (i : I) (l r : Tree M I) → MayMend mends (node i l r) → MayMend mends r
-  mayMend-right true i l r b = b .3
-  mayMend-right false i l r b = tt
-
-  pub mayMend-and : (mends c : Bool) (t : Tree M I) → MayMend mends t → MayMend (mends && c) t
-  mayMend-and true true t b = b
-  mayMend-and true false t b = tt
-  mayMend-and false c t b = tt
 
 module _ {I : Type 0} {A : Axis Mark Box} {f : ℕ → Mark} {place : ℕ → ℕ} {C : ℕ} where
   -- what is left after a change within the tree's own names is left of the words before it

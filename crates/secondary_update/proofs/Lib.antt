@@ -1,5 +1,6 @@
 pub mod Mending
-pub mod Inserting
+pub mod Mended
 pub mod Joining
+pub mod Inserting
 pub mod Striking
 pub mod Auxiliaries

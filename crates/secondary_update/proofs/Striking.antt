@@ -30,7 +30,8 @@ use Rattle.table.proofs.Held.{times-node, times-least, held-left, held-right, L
 use Rattle.secondary_update.specs.Updates.{Strike, strikeOf}
 use Rattle.secondary_update.specs.Strike.{Striking, ifStruck, withFirst, renamed♯, strikeLeft, strikeRight, strikeRecord, strikeNode, strike♯}
 use Rattle.secondary_update.proofs.Mending.{mended, figure, MayMend}
-use Rattle.secondary_update.proofs.Joining.{mayMend-left, mayMend-right, mayMend-and, join-left, join-right}
+use Rattle.secondary_update.proofs.Mended.{mayMend-left, mayMend-right, mayMend-and}
+use Rattle.secondary_update.proofs.Joining.{join-left, join-right}
 
 -- a slot that would be below itself, were it s, is not s
 not-itself : {S : Space Mark Box} (A : Axis Mark Box) (f : ℕ → Mark) → SamenessLaws S → AxisLaws S A → (s q : ℕ) → (s ≡ q → A .below (f s) (f s) ≡ true) → eqb s q ≡ false
