@@ -8,6 +8,7 @@ ghost use Rattle.table.specs.Values.{secondaryArm};
 ghost use Rattle.secondary_build.specs.Build.{runLeaf, build♯, rebuild♯};
 use crate::collect;
 use table::header;
+use table::limits;
 use table::runs;
 use table::secondary::SecondaryArm;
 use table::secondary::SecondaryRecord;
@@ -48,7 +49,7 @@ pub fn rebuild(t: &mut [u32], base: u32, a: SecondaryArm) -> SecondaryArm
         return SecondaryArm::none();
     }
     let node = a.node;
-    let got = collect::collect(t, base, capacity, node, 0, w, runs::DEEPEST);
+    let got = collect::collect(t, base, capacity, node, 0, w, limits::DEEPEST);
     if got == w {
         return build(t, base, capacity, 0, w);
     }

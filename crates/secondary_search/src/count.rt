@@ -4,7 +4,7 @@ ghost use Rattle.geometry.specs.Values.{boxValue};
 ghost use Rattle.table.specs.Values.{secondaryArm};
 ghost use Rattle.secondary_search.specs.Count.{opens♯, seen♯, search♯, count♯};
 use geometry::Box;
-use table::runs;
+use table::limits;
 use table::secondary::Secondary;
 use table::secondary::SecondaryArm;
 use table::secondary::SecondaryRecord;
@@ -39,7 +39,7 @@ fn search(t: &[u32], base: u32, b: Box, start: Secondary, from: u64, fuel: u32) 
     let mut left = fuel;
     while 0 < left {
         left -= 1;
-        if tally::MOST <= tally::visits(tally) {
+        if limits::MOST <= tally::visits(tally) {
             return tally::LOST;
         }
         let p = SecondaryRecord::at(t, base, node / 2);
@@ -75,7 +75,7 @@ pub fn count(t: &[u32], base: u32, b: Box, root: SecondaryArm, tally: u64) -> u6
     let here = seen(b, root, tally);
     if opens(b, root) {
         let node = root.node;
-        return search(t, base, b, node, here, runs::DEEPEST);
+        return search(t, base, b, node, here, limits::DEEPEST);
     }
     here
 }

@@ -6,7 +6,7 @@ ghost use Rattle.table.specs.After.{after};
 ghost use Rattle.table.specs.Layout.{deepest};
 ghost use Rattle.secondary_search.specs.List.{walk♯, list♯};
 use geometry::Box;
-use table::runs;
+use table::limits;
 use table::secondary::Secondary;
 use table::secondary::SecondaryArm;
 use table::secondary::SecondaryRecord;
@@ -89,5 +89,5 @@ pub fn list(
 ) -> u64
     ensures { λ r. ⌜ after r (now (out .exit)) ≡ list♯ deepest (now (t .entry)) base (boxValue b) most (secondaryArm root) tally (now (out .entry)) ⌝ }
 {
-    list_beneath(t, base, b, root, out, tally, most, runs::DEEPEST)
+    list_beneath(t, base, b, root, out, tally, most, limits::DEEPEST)
 }

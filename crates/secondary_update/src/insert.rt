@@ -9,7 +9,7 @@ ghost use Rattle.table.specs.Layout.{auxiliaryPlace, recordPlace, deepest};
 ghost use Rattle.table.specs.Values.{secondaryArm};
 ghost use Rattle.secondary_update.specs.Insert.{unsteady♯, childPlace, split♯, afresh♯, insert♯};
 use geometry::Mark;
-use table::runs;
+use table::limits;
 use table::secondary::SecondaryArm;
 use table::secondary::SecondaryRecord;
 use table::slots;
@@ -124,5 +124,5 @@ pub fn insert(t: &mut [u32], base: u32, owner: u32, m: Mark, s: u32) -> u32
     ensures { λ r. ⌜ after r (now (t .exit)) ≡ insert♯ alongY deepest (recordPlace base) (markValue m) s true (auxiliaryPlace owner) (now (t .entry)) ⌝ }
 {
     let start = 75 + 16 * (owner as usize);
-    insert_beneath(t, base, start, m, s, true, runs::DEEPEST)
+    insert_beneath(t, base, start, m, s, true, limits::DEEPEST)
 }

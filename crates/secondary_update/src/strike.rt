@@ -11,7 +11,7 @@ ghost use Rattle.secondary_update.specs.Updates.{strikeOf, noStrike};
 ghost use Rattle.secondary_update.specs.Values.{struckValue};
 use crate::node;
 use geometry::Mark;
-use table::runs;
+use table::limits;
 use table::secondary::SecondaryArm;
 use table::secondary::SecondaryRecord;
 use table::slots;
@@ -108,5 +108,5 @@ fn strike_beneath(
 pub fn strike(t: &mut [u32], base: u32, root: SecondaryArm, m: Mark, s: u32) -> Struck
     ensures { λ u. ⌜ after (struckValue u) (now (t .exit)) ≡ strike♯ alongY deepest (recordPlace base) (markValue m) s true (secondaryArm root) (now (t .entry)) ⌝ }
 {
-    strike_beneath(t, base, root, m, s, true, runs::DEEPEST)
+    strike_beneath(t, base, root, m, s, true, limits::DEEPEST)
 }

@@ -1,6 +1,7 @@
 // The words of a table (docs/LAYOUT.md): reading and writing them. A word past the end reads as 0 and is not written, so every function here is total on
 // every run of words. A mark, an arm and a record have one test each for all their words.
 pub mod header;
+pub mod limits;
 pub mod primary;
 pub mod runs;
 pub mod secondary;

@@ -4,9 +4,6 @@ ghost use lib.ListN.{getD, set};
 ghost use Rattle.table.specs.Layout.{usedPlace, placePlace, runPlace, secondRunPlace};
 use crate::words;
 
-// More levels than any tree of 65,536 marks has.
-pub const DEEPEST: u32 = 40;
-
 // used[i]: the slots, those that hold marks first.
 pub fn used(t: &[u32], capacity: u32, i: u32) -> u32
     ensures { λ r. ⌜ r ≡ getD (now (t .entry)) (usedPlace capacity i) 0 ⌝ }

@@ -6,9 +6,6 @@ ghost use Rattle.table.specs.Tally.{visited};
 // The tally of a search that met damage: more visits than any budget.
 pub const LOST: u64 = 4294967295;
 
-// The most visits of a count in a sound table: (4 D + 1) (2 D + 1) at D(65,536) = 38.
-pub const MOST: u32 = 11781;
-
 // One visit more, with w marks.
 pub fn visit(tally: u64, w: u32) -> u64
     ensures { λ r. ⌜ r ≡ visited tally w ⌝ }

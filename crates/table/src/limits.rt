@@ -1,0 +1,7 @@
+// What no walk in a sound table comes to, and what ends one in any other.
+
+// More levels than any tree of 65,536 marks has: D(65,536) = 38, and an insertion may add one.
+pub const DEEPEST: u32 = 40;
+
+// The most visits of a count: (4 D + 1) (2 D + 1) at D = 38.
+pub const MOST: u32 = 11781;
