@@ -47,6 +47,16 @@ innermost-laws S settled h = record {
   boundRises = λ m n e. omega arith;
 }
 
+-- what the laws' `Represents` says, for those who read it elsewhere: the marks themselves
+module _ {M B : Type 0} (S : Space M B) (settled : B → M → Bool) (h : (b : B) (m : M) → settled b m ≡ true → S .holds b m ≡ true) (i l : List M) where
+  pub innermost-bag : innermost-laws S settled h .Represents i l → SameBag i l
+  unfolding innermost-laws
+  innermost-bag r = r
+
+  pub innermost-represents : SameBag i l → innermost-laws S settled h .Represents i l
+  unfolding innermost-laws
+  innermost-represents e = e
+
 -- Where a tree's nodes carry innermost registers, as an auxiliary's do, these give what document 01 says of the node: a count "adds the weight", and a
 -- listing walks every node beneath, one visit each.
 module _ {M B : Type 0} (S : Space M B) (E : SamenessLaws S) (A : Axis M B) (O : AxisLaws S A) (settled : B → M → Bool)

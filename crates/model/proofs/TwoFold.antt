@@ -51,6 +51,12 @@ auxiliary-sound =
     fold-sound sheet sheet-sameness alongY alongY-laws (innermost sheet) (settledWith alongX unsettled) (λ n. 0)
     (innermost-laws sheet (settledWith alongY (settledWith alongX unsettled)) both-settled)
 
+pub auxiliary-represents : (o : Auxiliary) (l : List Mark) → AuxiliarySound o l → auxiliary-laws .Represents o l
+unfolding auxiliary-laws
+auxiliary-represents =
+    fold-represents sheet sheet-sameness alongY alongY-laws (innermost sheet) (settledWith alongX unsettled) (λ n. 0)
+    (innermost-laws sheet (settledWith alongY (settledWith alongX unsettled)) both-settled)
+
 pub main-sound : (o : Main) (l : List Mark) → main-laws .Represents o l → MainSound o l
 unfolding main-laws
 main-sound = fold-sound sheet sheet-sameness alongX alongX-laws auxiliary unsettled (foldBound (λ n. 0)) auxiliary-laws

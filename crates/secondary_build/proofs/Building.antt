@@ -46,7 +46,7 @@ pub record Built {I : Type 0} (A : Axis Mark Box) (f : ℕ → Mark) (place : �
 
 module _ {f : ℕ → Mark} {C i : ℕ} (l r : List ℕ) {xs : List ℕ} (u : Run f C i (l ++ r) xs) where
   -- the parts of a run
-  run-left : Run f C i l xs
+  pub run-left : Run f C i l xs
   run-left = record {
     reads = λ j h. u .reads j (omega (arith, length-append l r)) ∙ List·getD-append l r 0 j h;
     fits = omega (arith, u .fits, length-append l r);
@@ -55,7 +55,7 @@ module _ {f : ℕ → Mark} {C i : ℕ} (l r : List ℕ) {xs : List ℕ} (u : Ru
     marked = λ s k. u .marked s (omega (arith, countIf-append (eqb s) l r));
   }
 
-  run-right : Run f C (i + length l) r xs
+  pub run-right : Run f C (i + length l) r xs
   run-right = record {
     reads = λ j h.
         let e : runPlace C (i + length l + j) ≡ runPlace C (i + (length l + j)) = omega arith in
@@ -67,7 +67,7 @@ module _ {f : ℕ → Mark} {C i : ℕ} (l r : List ℕ) {xs : List ℕ} (u : Ru
   }
 
 -- a change of records leaves a run
-run-kept : {f : ℕ → Mark} {place : ℕ → ℕ} {C i n : ℕ} {l xs ys : List ℕ} {P : ℕ → Type 0} → Region place C n → Frame place P 0 0 xs ys
+pub run-kept : {f : ℕ → Mark} {place : ℕ → ℕ} {C i n : ℕ} {l xs ys : List ℕ} {P : ℕ → Type 0} → Region place C n → Frame place P 0 0 xs ys
     → ((s : ℕ) → P s → s < C) → Run f C i l xs → Run f C i l ys
 run-kept {C = C} {i = i} g a inC u = record {
   reads = λ j h.
@@ -84,7 +84,7 @@ run-kept {C = C} {i = i} g a inC u = record {
     off k lo hi (inr h) = inr (omega arith)
 
 -- the slot at the beginning of a tree's run is its least
-run-least : {I : Type 0} {f : ℕ → Mark} {C i : ℕ} {xs : List ℕ} (t : Tree ℕ I) → Run f C i (marks t) xs → getD xs (runPlace C i) 0 ≡ least t
+pub run-least : {I : Type 0} {f : ℕ → Mark} {C i : ℕ} {xs : List ℕ} (t : Tree ℕ I) → Run f C i (marks t) xs → getD xs (runPlace C i) 0 ≡ least t
 run-least {C = C} {i = i} {xs = xs} t u =
     let e : i + 0 ≡ i = omega arith in
     (rw e at (u .reads 0 (marks-pos t))) ∙ ap (λ l. getD l 0 0) (marks-least t .1)

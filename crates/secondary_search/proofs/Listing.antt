@@ -24,7 +24,7 @@ use Rattle.model.proofs.Tree.{weight-pos, weight-marks, nodes, nodes-weight}
 use Rattle.table.specs.Layout.{recordPlace, listPlace}
 use Rattle.table.specs.Marks.{slotMark, putMark}
 use Rattle.table.specs.Arms.{arms, recordAt}
-use Rattle.table.specs.Holds.{number, armOf, Holds}
+use Rattle.table.specs.Holds.{number, armOf, Holds, CarriesBag}
 use Rattle.table.specs.Tally.{visited, lost, pack}
 use Rattle.table.specs.After.{After, after}
 use Rattle.table.proofs.Frames.{sets-append}
@@ -37,18 +37,13 @@ abbrev pub markWords : List Mark → List ℕ
 markWords [] = []
 markWords (m ∷ l) = m .x ∷ m .y ∷ m .tag ∷ markWords l
 
--- each node carries the slots that stand beneath it
-abbrev pub CarriesBag : Tree ℕ (List ℕ) → Type 0
-CarriesBag (leaf s) = Unit {0}
-CarriesBag (node i l r) = SameBag i (marks l ++ marks r) × CarriesBag l × CarriesBag r
-
 module _ (f : ℕ → Mark) where
   -- the words have the marks of a tree's slots
   abbrev pub Marked : List ℕ → Tree ℕ (List ℕ) → Type 0
   Marked xs t = All (λ s. slotMark xs s ≡ f s) (marks t)
 
   -- the list with the marks of slots written from its mark k on
-  abbrev written : ℕ → List ℕ → List ℕ → List ℕ
+  abbrev pub written : ℕ → List ℕ → List ℕ → List ℕ
   written k l ys = sets ys (listPlace k) (markWords (map f l))
 
   module _ (b : Box) where
@@ -71,7 +66,7 @@ markWords-length : (l : List Mark) → length (markWords l) ≡ 3 * length l
 markWords-length [] = refl
 markWords-length (m ∷ l) = omega (arith, markWords-length l)
 
-written-append : (f : ℕ → Mark) (k : ℕ) (l r ys : List ℕ) → written f k (l ++ r) ys ≡ written f (k + length l) r (written f k l ys)
+pub written-append : (f : ℕ → Mark) (k : ℕ) (l r ys : List ℕ) → written f k (l ++ r) ys ≡ written f (k + length l) r (written f k l ys)
 written-append f k l r ys =
     let e : listPlace k + length (markWords (map f l)) ≡ listPlace (k + length l) = omega (arith, markWords-length (map f l), length-map l f) in
     rw (map-append f l r, markWords-append (map f l) (map f r), sets-append (markWords (map f l)) (markWords (map f r)) ys (listPlace k), e)

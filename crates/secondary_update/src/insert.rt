@@ -19,7 +19,7 @@ use table::weights;
 pub const DAMAGED: u32 = 4294967295;
 
 // Whether a node over these weights is not balanced with one mark more on its left or its right, and is to be mended.
-fn unsteady(mends: bool, left: bool, l: u32, r: u32) -> bool
+pub fn unsteady(mends: bool, left: bool, l: u32, r: u32) -> bool
     ensures { λ a. ⌜ a ≡ unsteady♯ mends left l r ⌝ }
 {
     if mends {

@@ -46,7 +46,7 @@ fn damaged() -> Struck
 }
 
 // The name of a node once slot s is struck: the least slot left in its right child, if that was s.
-fn renamed(name: u32, s: u32, first: u32) -> u32
+pub fn renamed(name: u32, s: u32, first: u32) -> u32
     ensures { λ r. ⌜ r ≡ renamed♯ name s first ⌝ }
 {
     if name == s {

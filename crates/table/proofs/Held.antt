@@ -16,6 +16,7 @@ use Rattle.model.proofs.Logic.{by-cases}
 use Rattle.model.proofs.Lists.{countIf-append}
 use Rattle.model.proofs.Tree.{weight-marks, marks-pos, marks-least}
 use Rattle.table.specs.Layout.{runPlace}
+use Rattle.table.specs.Marks.{slotMark}
 use Rattle.table.specs.Arms.{Arm, arm, leafNumber, innerNumber, sum, arms, leafArm, overArm, recordAt, putRecord}
 use Rattle.table.specs.Holds.{armOf, Holds, timesIn, times, Held}
 use Rattle.table.proofs.Frames.{Region, Frame, frame-run, frame-record, frame-mark, putRecord-frame, putRecord-same}
@@ -208,3 +209,24 @@ pub record Leaves {I : Type 0} (A : Axis Mark Box) (f : ℕ → Mark) (place : �
   pub is : a ≡ armOf A f t
   pub held : Held A f place C ys t
   pub frame : Frame place (Names t) (runPlace C 0) (runPlace C C) xs ys
+
+-- A tree stays where the records of its names and the marks of its slots read the same.
+module _ {I : Type 0} (A : Axis Mark Box) (f : ℕ → Mark) where
+  holds-same : (place : ℕ → ℕ) (xs ys : List ℕ) (t : Tree ℕ I) → ((s : ℕ) → times s t ≤ 1)
+      → ((s : ℕ) → Names t s → recordAt ys (place s) ≡ recordAt xs (place s)) → Holds A f place xs t → Holds A f place ys t
+  holds-same place xs ys (leaf s) once same h = tt
+  holds-same place xs ys (node i l r) once same h =
+      let d : ((s : ℕ) → times s l + times s r ≤ 1) = λ s. omega (arith, once s, times-node s i l r) in (
+        same (least r) (names-own i l r d (least r) refl) ∙ h .0,
+        holds-same place xs ys l (λ s. omega (arith, d s)) (λ s k. same s (names-left i l r s k)) (h .1),
+        holds-same place xs ys r (λ s. omega (arith, d s)) (λ s k. same s (names-right i l r d s (k .0))) (h .2),
+      )
+
+  pub held-same : {place : ℕ → ℕ} {C : ℕ} {xs ys : List ℕ} (t : Tree ℕ I) → ((s : ℕ) → Names t s → recordAt ys (place s) ≡ recordAt xs (place s))
+      → ((s : ℕ) → 0 < times s t → slotMark ys s ≡ slotMark xs s) → Held A f place C xs t → Held A f place C ys t
+  held-same {place = place} {xs = xs} {ys = ys} t same mark h = record {
+    once = h .once;
+    within = h .within;
+    marked = λ s k. mark s k ∙ h .marked s k;
+    records = holds-same place xs ys t (h .once) same (h .records);
+  }

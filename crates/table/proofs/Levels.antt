@@ -36,7 +36,7 @@ pub levels-apart : (C d e s q : ℕ) → d < e → s < C → q < C → recordPla
 levels-apart C d e s q h k l = omega (arith, level-after C d e h)
 
 -- the levels of the largest capacity
-most-levels : (C : ℕ) → C ≤ largestCapacity → D C ≤ 38
+pub most-levels : (C : ℕ) → C ≤ largestCapacity → D C ≤ 38
 most-levels C h =
     let low : 4 ^ 38 ≤ 3 ^ 38 * 65536 = leb-true (4 ^ 38) (3 ^ 38 * 65536) refl in
     let high : 3 ^ 39 * 65536 < 4 ^ 39 = ltb-true (3 ^ 39 * 65536) (4 ^ 39) refl in

@@ -2,12 +2,13 @@
 -- nothing.
 use Prim.Native.Nat.{ℕ, _+_, _*_, _≤_, _<_}
 use mathlib.Core.Path.{_≡_}
-use mathlib.Core.List.{List}
+use mathlib.Core.List.{List, _++_}
 use lib.Dec.{eqb}
 use Rattle.model.specs.Lists.{countIf}
 use Rattle.model.specs.Axis.{Axis}
 use Rattle.model.specs.Sheet.{Mark, Box}
 use Rattle.model.specs.Tree.{Tree, leaf, node, weight, marks, least, greatest}
+use Rattle.model.specs.Laws.{SameBag}
 use Rattle.table.specs.Marks.{slotMark}
 use Rattle.table.specs.Arms.{Arm, arm, arms, recordAt}
 
@@ -40,3 +41,8 @@ pub record Held {I : Type 0} (A : Axis Mark Box) (f : ℕ → Mark) (place : ℕ
   pub within : (s : ℕ) → 0 < times s t → s < C
   pub marked : (s : ℕ) → 0 < times s t → slotMark xs s ≡ f s
   pub records : Holds A f place xs t
+
+-- each node of an auxiliary tree carries the slots that stand beneath it
+abbrev pub CarriesBag : Tree ℕ (List ℕ) → Type 0
+CarriesBag (leaf s) = Unit {0}
+CarriesBag (node i l r) = SameBag i (marks l ++ marks r) × CarriesBag l × CarriesBag r

@@ -7,7 +7,7 @@ visited tally w = (tally + (4294967296 * w + 1)) % 2 ^ 64
 
 -- the tally of a search that met damage
 abbrev pub lost : ℕ
-lost = 4294967295
+lost = 2147483648
 
 -- (4 D + 1) (2 D + 1) at D(65,536) = 38 (document 01, "The search and its visits", for the largest capacity)
 abbrev pub mostVisits : ℕ

@@ -1,9 +1,12 @@
-// The header: whether the table is open, its capacity, its live marks. The arm of the main tree's root stands in it too (primary.rt).
+// The header: whether the table is open, its capacity, its live marks; and the arm of the main tree's root (primary.rt).
 ghost use mathlib.Core.Path.{_≡_};
 ghost use lib.Dec.{eqb};
 ghost use lib.ListN.{getD, set};
 ghost use Rattle.table.specs.Layout.{openPlace, capacityPlace, livePlace};
 use crate::words;
+
+// Where the arm of the main tree's root stands.
+pub const ROOT: usize = 3;
 
 // Whether word 0 says that the table is open.
 pub fn is_open(t: &[u32]) -> bool

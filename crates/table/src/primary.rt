@@ -1,14 +1,15 @@
 // Nodes of the main tree (000's primary nodes): numbers, arms and records, and the arms of their auxiliary trees.
 ghost use mathlib.Core.Path.{_≡_};
-ghost use Prim.Native.Nat.{_/_, _%_};
+ghost use Prim.Native.Nat.{_/_, _%_, _<_, _^_};
 ghost use lib.Dec.{eqb};
-ghost use Rattle.table.specs.Layout.{mainPlace, auxiliaryPlace, rootPlace};
+ghost use Rattle.table.specs.Layout.{mainPlace, auxiliaryPlace};
 ghost use Rattle.table.specs.Arms.{
   leafNumber,
   innerNumber,
   noArm,
   leafArm,
   overArm,
+  grownArm,
   armAt,
   putArm,
   recordAt,
@@ -100,6 +101,52 @@ impl PrimaryArm {
             greatest: r.greatest,
         }
     }
+
+    // The same root with one mark more, at the coordinate v.
+    pub fn grown(self, v: u32) -> PrimaryArm
+        ensures { λ r. ⌜ primaryArm r ≡ grownArm (primaryArm self) v ⌝ }
+    {
+        let node = self.node;
+        let weight = weights::sum(self.weight, 1);
+        let least = weights::lesser(self.least, v);
+        let greatest = weights::greater(self.greatest, v);
+        PrimaryArm {
+            node,
+            weight,
+            least,
+            greatest,
+        }
+    }
+
+    // The arm at the word `at`; that of the main tree's root stands at header::ROOT.
+    pub fn at(t: &[u32], at: usize) -> PrimaryArm
+        requires { ⌜ at < 2 ^ 60 ⌝ }
+        ensures { λ r. ⌜ primaryArm r ≡ armAt (now (t .entry)) at ⌝ }
+    {
+        if at + 4 <= t.len() {
+            PrimaryArm {
+                node: Primary(t[at]),
+                weight: t[at + 1],
+                least: t[at + 2],
+                greatest: t[at + 3],
+            }
+        } else {
+            PrimaryArm::none()
+        }
+    }
+
+    pub fn put(t: &mut [u32], at: usize, a: PrimaryArm)
+        requires { ⌜ at < 2 ^ 60 ⌝ }
+        ensures { λ _. ⌜ now (t .exit) ≡ putArm (now (t .entry)) at (primaryArm a) ⌝ }
+    {
+        if at + 4 <= t.len() {
+            let n = a.node;
+            t[at] = n.0;
+            t[at + 1] = a.weight;
+            t[at + 2] = a.least;
+            t[at + 3] = a.greatest;
+        }
+    }
 }
 
 impl PrimaryRecord {
@@ -158,35 +205,5 @@ impl PrimaryRecord {
         ensures { λ _. ⌜ now (t .exit) ≡ putArm (now (t .entry)) (auxiliaryPlace name) (secondaryArm a) ⌝ }
     {
         SecondaryArm::put(t, 75 + 16 * (name as usize), a);
-    }
-}
-
-impl PrimaryArm {
-    // The arm of the main tree's root.
-    pub fn root(t: &[u32]) -> PrimaryArm
-        ensures { λ r. ⌜ primaryArm r ≡ armAt (now (t .entry)) rootPlace ⌝ }
-    {
-        if 7 <= t.len() {
-            PrimaryArm {
-                node: Primary(t[3]),
-                weight: t[4],
-                least: t[5],
-                greatest: t[6],
-            }
-        } else {
-            PrimaryArm::none()
-        }
-    }
-
-    pub fn put_root(t: &mut [u32], a: PrimaryArm)
-        ensures { λ _. ⌜ now (t .exit) ≡ putArm (now (t .entry)) rootPlace (primaryArm a) ⌝ }
-    {
-        if 7 <= t.len() {
-            let n = a.node;
-            t[3] = n.0;
-            t[4] = a.weight;
-            t[5] = a.least;
-            t[6] = a.greatest;
-        }
     }
 }
