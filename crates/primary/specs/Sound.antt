@@ -1,0 +1,67 @@
+-- A sound table: "The check call passes a table exactly when 3 does not apply and its words hold a tree by the rules above, word 2 is the number of its
+-- marks, and every other record of docs/'s layout is free, each once" (document 01, "Where each call may stop"). Here the words are the table's own, W(C)
+-- of them. Assumes nothing.
+use Prim.Native.Nat.{ℕ, _<_}
+use mathlib.Core.Path.{_≡_}
+use mathlib.Core.Bool.{false}
+use mathlib.Core.List.{List}
+use mathlib.Core.Option.{Option, none, some}
+use lib.Dec.{ltb}
+use lib.ListN.{length, getD}
+use Rattle.model.specs.Lists.{indicator}
+use Rattle.model.specs.Tree.{marksOf}
+use Rattle.model.specs.Sizes.{W, capacityOutside}
+use Rattle.model.specs.Sheet.{Main, markOutside, alongX}
+use Rattle.model.specs.Laws.{All}
+use Rattle.table.specs.Layout.{openPlace, capacityPlace, livePlace, rootPlace, usedPlace, placePlace}
+use Rattle.table.specs.Marks.{slotMark}
+use Rattle.table.specs.Arms.{armAt}
+use Rattle.table.specs.Holds.{armOf, timesIn}
+use Rattle.twofold.specs.Rules.{SlotMain, ByRules, marksMain}
+use Rattle.twofold.specs.TwoFold.{TwoFold}
+
+module _ (xs : List ℕ) where
+  -- the capacity and the live marks, and the two lists of slots: used[i] and place[s]
+  abbrev pub capacityOf : ℕ
+  capacityOf = getD xs capacityPlace 0
+
+  abbrev pub liveOf : ℕ
+  liveOf = getD xs livePlace 0
+
+  abbrev pub usedAt : ℕ → ℕ
+  usedAt i = getD xs (usedPlace capacityOf i) 0
+
+  abbrev pub placeAt : ℕ → ℕ
+  placeAt s = getD xs (placePlace capacityOf s) 0
+
+  -- the words hold a tree over slots, each slot with the mark that its words say; where there is no tree, the root's arm has weight 0
+  abbrev pub HoldsTree : Option SlotMain → Type 0
+  HoldsTree none = armAt xs rootPlace .weight ≡ 0
+  HoldsTree (some t) = (armAt xs rootPlace ≡ armOf alongX (slotMark xs) t) × TwoFold (slotMark xs) capacityOf 0 xs t
+
+  abbrev pub TreeByRules : Option SlotMain → Type 0
+  TreeByRules none = Unit {0}
+  TreeByRules (some t) = ByRules (slotMark xs) t
+
+  -- every slot once in `used`, and those of the tree are the first live ones: "every other record .. is free, each once"
+  pub record EachOnce (o : Option SlotMain) : Type 0 where
+    pub used : (i : ℕ) → i < capacityOf → (usedAt i < capacityOf) × (placeAt (usedAt i) ≡ i)
+    pub place : (s : ℕ) → s < capacityOf → (placeAt s < capacityOf) × (usedAt (placeAt s) ≡ s)
+    pub live : (s : ℕ) → s < capacityOf → timesIn s (marksOf o) ≡ indicator (ltb (placeAt s) liveOf)
+
+  -- the table is sound and holds the main tree T over marks
+  pub record Holding (T : Main) : Type 0 where
+    pub isOpen : getD xs openPlace 0 ≡ 1
+    pub capacity : capacityOutside capacityOf ≡ false
+    pub long : length xs ≡ W capacityOf
+    pub slots : Option SlotMain
+    pub stands : marksMain (slotMark xs) slots ≡ T
+    pub holds : HoldsTree slots
+    pub rules : TreeByRules slots
+    pub coordinates : All (λ m. markOutside m ≡ false) (marksOf T)
+    pub live : liveOf ≡ length (marksOf T)
+    pub free : EachOnce slots
+
+  pub record SoundTable : Type 0 where
+    pub tree : Main
+    pub holding : Holding tree

@@ -1,0 +1,28 @@
+// Insertion of a mark into a table.
+ghost use mathlib.Core.Path.{_≡_};
+ghost use Rattle.geometry.specs.Values.{markValue};
+ghost use Rattle.table.specs.After.{after};
+ghost use Rattle.primary.specs.Insert.{tableInsert♯};
+use geometry::Mark;
+use table::header;
+use table::runs;
+use table::slots;
+use table::weights;
+
+// What an insertion gives in place of its figure where the table is not sound.
+pub const DAMAGED: u32 = 4294967295;
+
+// Inserts a mark that the table does not have, where it has room: the first free slot takes it. Gives the weight of the main node built afresh, or 0.
+pub fn insert(t: &mut [u32], m: Mark) -> u32
+    ensures { λ r. ⌜ after r (now (t .exit)) ≡ tableInsert♯ (markValue m) (now (t .entry)) ⌝ }
+{
+    let capacity = header::capacity(t);
+    let live = header::live(t);
+    let s = runs::used(t, capacity, live);
+    if capacity <= s {
+        return DAMAGED;
+    }
+    slots::put_slot(t, s, m);
+    header::put_live(t, weights::sum(live, 1));
+    primary_insert::insert::insert(t, m, s)
+}

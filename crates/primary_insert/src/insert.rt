@@ -1,0 +1,120 @@
+// Insertion: down from the root, each arm on the way written once, and each auxiliary tree on the way updated, before the node's children are looked at.
+ghost use mathlib.Core.Path.{_≡_};
+ghost use Prim.Native.Nat.{_<_, _^_};
+ghost use Rattle.geometry.specs.Values.{markValue};
+ghost use Rattle.table.specs.After.{after};
+ghost use Rattle.table.specs.Values.{primaryArm};
+ghost use Rattle.primary_insert.specs.Insert.{mainLeaf♯, mainAfresh♯, insertBeneath♯, mainInsert♯};
+use crate::main_tree;
+use geometry::Mark;
+use table::header;
+use table::limits;
+use table::primary::PrimaryArm;
+use table::primary::PrimaryRecord;
+use table::secondary::SecondaryArm;
+use table::slots;
+use table::weights;
+use twofold::levels;
+
+// Makes a node of a leaf and the mark m of slot s, with the auxiliary tree of the two. Two marks are balanced: nothing is built afresh.
+fn insert_at_leaf(t: &mut [u32], base: u32, at: usize, q: PrimaryArm, m: Mark, s: u32) -> u32
+    requires { ⌜ at < 2 ^ 60 ⌝ }
+    ensures { λ r. ⌜ after r (now (t .exit)) ≡ mainLeaf♯ (markValue m) s base at (primaryArm q) (now (t .entry)) ⌝ }
+{
+    let name = main_tree::split(t, at, q, m, s);
+    let node = q.node;
+    let other = slots::mark_at(t, node.slot());
+    PrimaryRecord::put_auxiliary(t, name, SecondaryArm::leaf(node.slot(), other.y));
+    secondary_update::insert::insert(t, base, name, m, s)
+}
+
+// Puts the mark into the main tree whose arm stands at the word `at`, and builds that tree afresh with all its auxiliary trees; gives its weight.
+fn insert_afresh(t: &mut [u32], base: u32, at: usize, m: Mark, s: u32) -> u32
+    requires { ⌜ at < 2 ^ 40 ⌝ }
+    ensures { λ r. ⌜ after r (now (t .exit)) ≡ mainAfresh♯ (markValue m) s base at (now (t .entry)) ⌝ }
+{
+    let done = main_tree::put(t, at, m, s, limits::DEEPEST);
+    if done == main_tree::DAMAGED {
+        return main_tree::DAMAGED;
+    }
+    let a = PrimaryArm::at(t, at);
+    let fresh = primary_build::build::rebuild(
+        t,
+        base,
+        a,
+        primary_build::collect::NO_SLOT,
+        a.weight,
+    );
+    let b = fresh.arm;
+    if b.weight == 0 {
+        return main_tree::DAMAGED;
+    }
+    PrimaryArm::put(t, at, b);
+    a.weight
+}
+
+// Inserts the mark m of slot s beneath the arm at the word `start`, whose level begins at `level`; gives the weight of the main node built afresh, or 0.
+fn insert_beneath(
+    t: &mut [u32],
+    level: u32,
+    capacity: u32,
+    start: usize,
+    m: Mark,
+    s: u32,
+    fuel: u32,
+) -> u32
+    requires { ⌜ start < 2 ^ 40 ⌝ }
+    ensures { λ r. ⌜ after r (now (t .exit)) ≡ insertBeneath♯ fuel capacity (markValue m) s level start (now (t .entry)) ⌝ }
+{
+    let mut base = level;
+    let mut at = start;
+    let mut left = fuel;
+    while 0 < left {
+        left -= 1;
+        let a = PrimaryArm::at(t, at);
+        let node = a.node;
+        if node.is_leaf() {
+            return insert_at_leaf(t, base, at, a, m, s);
+        }
+        let name = node.slot();
+        let p = PrimaryRecord::at(t, name);
+        let l = p.left;
+        let r = p.right;
+        if weights::disagree(l.weight, r.weight, a.weight) {
+            return main_tree::DAMAGED;
+        }
+        let below = m.below_x(slots::mark_at(t, name));
+        if secondary_update::insert::unsteady(true, below, l.weight, r.weight) {
+            return insert_afresh(t, base, at, m, s);
+        }
+        PrimaryArm::put(t, at, a.grown(m.x));
+        let done = secondary_update::insert::insert(t, base, name, m, s);
+        if done == main_tree::DAMAGED {
+            return main_tree::DAMAGED;
+        }
+        base = levels::deeper(base, capacity);
+        at = main_tree::child_place(name, below);
+    }
+    main_tree::DAMAGED
+}
+
+// Inserts the mark m, which stands in slot s; gives the weight of the main node built afresh, or 0. The first mark is a lone leaf.
+pub fn insert(t: &mut [u32], m: Mark, s: u32) -> u32
+    ensures { λ r. ⌜ after r (now (t .exit)) ≡ mainInsert♯ (markValue m) s (now (t .entry)) ⌝ }
+{
+    let root = PrimaryArm::at(t, header::ROOT);
+    if root.weight == 0 {
+        PrimaryArm::put(t, header::ROOT, PrimaryArm::leaf(s, m.x));
+        return 0;
+    }
+    let capacity = header::capacity(t);
+    insert_beneath(
+        t,
+        levels::top(capacity),
+        capacity,
+        header::ROOT,
+        m,
+        s,
+        limits::DEEPEST,
+    )
+}

@@ -1,0 +1,45 @@
+-- The mirror of the finding. Assumes nothing.
+use Prim.Native.Nat.{ℕ, zero, suc, _-_, _/_, _%_}
+use mathlib.Core.Path.{_≡_, refl}
+use mathlib.Core.List.{List}
+use native.Mathlib.Omega.{arith}
+use lib.Dec.{eqb}
+use Rattle.model.specs.Lists.{if_then_else_}
+use Rattle.model.specs.Sheet.{Mark, same, belowX}
+use Rattle.table.specs.Layout.{mainPlace, rootPlace, deepest}
+use Rattle.table.specs.Marks.{slotMark}
+use Rattle.table.specs.Arms.{Arm, armAt, recordAt}
+
+abbrev pub absent : ℕ
+absent = 4294967295
+
+abbrev pub damagedFind : ℕ
+damagedFind = 4294967294
+
+unfoldable pub findLeaf : List ℕ → Mark → ℕ → ℕ
+findLeaf xs m s = if same m (slotMark xs s) then s else absent
+
+-- from a node's number
+unfoldable pub findNode : (ℕ → ℕ) → List ℕ → Mark → ℕ → ℕ
+findNode rec xs m n =
+    if eqb (n % 2) 0 then findLeaf xs m (n / 2)
+    else (if belowX m (slotMark xs (n / 2)) then rec (recordAt xs (mainPlace (n / 2)) .left .node) else rec (recordAt xs (mainPlace (n / 2)) .right .node))
+
+unfoldable pub findBeneath♯ : ℕ → List ℕ → Mark → ℕ → ℕ
+findBeneath♯ zero xs m n = damagedFind
+findBeneath♯ (suc f) xs m n = findNode (findBeneath♯ f xs m) xs m n
+
+pub findBeneath♯-zero : (f : ℕ) → f ≡ 0 → (xs : List ℕ) (m : Mark) (n : ℕ) → findBeneath♯ f xs m n ≡ damagedFind
+unfolding findBeneath♯
+findBeneath♯-zero f e xs m n = rw e
+
+pub findBeneath♯-suc : (f : ℕ) → (f ≡ 0 → ⊥) → (xs : List ℕ) (m : Mark) (n : ℕ) → findBeneath♯ f xs m n ≡ findNode (findBeneath♯ (f - 1) xs m) xs m n
+unfolding findBeneath♯
+findBeneath♯-suc zero h xs m n = absurd (h refl)
+findBeneath♯-suc (suc f) h xs m n = let e : suc f - 1 ≡ f = omega arith in rw e
+
+unfoldable pub findRoot : List ℕ → Mark → Arm → ℕ
+findRoot xs m a = if eqb (a .weight) 0 then absent else findBeneath♯ deepest xs m (a .node)
+
+unfoldable pub find♯ : List ℕ → Mark → ℕ
+find♯ xs m = findRoot xs m (armAt xs rootPlace)

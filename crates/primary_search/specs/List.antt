@@ -1,0 +1,67 @@
+-- The mirror of the listing. Assumes nothing.
+use Prim.Native.Nat.{ℕ, zero, suc, _-_, _/_, _%_}
+use mathlib.Core.Path.{_≡_, refl}
+use mathlib.Core.List.{List}
+use native.Mathlib.Omega.{arith}
+use lib.Dec.{leb, eqb}
+use lib.ListN.{getD}
+use Rattle.model.specs.Lists.{if_then_else_}
+use Rattle.model.specs.Axis.{cellInside, cellClear}
+use Rattle.model.specs.Sheet.{Mark, Box, alongX, holds}
+use Rattle.table.specs.Layout.{capacityPlace, mainPlace, auxiliaryPlace, rootPlace, listPlace, deepest}
+use Rattle.table.specs.Marks.{slotMark, putMark}
+use Rattle.table.specs.Arms.{Arm, Record, armAt, recordAt}
+use Rattle.table.specs.Tally.{visited, lost}
+use Rattle.table.specs.After.{After, after}
+use Rattle.twofold.specs.Levels.{topLevel, deeper}
+use Rattle.secondary_search.specs.List.{list♯}
+
+unfoldable pub listMark : Box → Mark → ℕ → List ℕ → After ℕ
+listMark b m tally ys =
+    if holds b m then after (visited tally 1) (putMark ys (listPlace (tally / 4294967296)) m) else after (visited tally 0) ys
+
+unfoldable pub listLeaf♯ : List ℕ → Box → ℕ → ℕ → List ℕ → After ℕ
+listLeaf♯ xs b s tally ys = listMark b (slotMark xs s) tally ys
+
+-- from where the arm's level begins, the arm, a tally and the list so far
+abbrev pub MainListing : Type 0
+MainListing = ℕ → Arm → ℕ → List ℕ → After ℕ
+
+unfoldable pub listChildren : MainListing → Record → ℕ → ℕ → List ℕ → After ℕ
+listChildren rec p base tally ys =
+    let half : After ℕ = rec base (p .left) tally ys in
+    rec base (p .right) (half .out) (half .words)
+
+unfoldable pub listInner : MainListing → List ℕ → ℕ → Box → ℕ → ℕ → Arm → ℕ → ℕ → List ℕ → After ℕ
+listInner rec xs capacity b most base a s here ys =
+    if cellInside alongX b (a .least) (a .greatest) then list♯ deepest xs base b most (armAt xs (auxiliaryPlace s)) here ys
+    else (if cellClear alongX b (a .least) (a .greatest) then after here ys
+    else listChildren rec (recordAt xs (mainPlace s)) (deeper base capacity) here ys)
+
+unfoldable pub listArm : MainListing → List ℕ → ℕ → Box → ℕ → MainListing
+listArm rec xs capacity b most base a tally ys =
+    if leb most (tally % 4294967296) then after lost ys
+    else (if eqb (a .node % 2) 0 then listLeaf♯ xs b (a .node / 2) tally ys
+    else listInner rec xs capacity b most base a (a .node / 2) (visited tally 0) ys)
+
+unfoldable pub listBeneath♯ : ℕ → List ℕ → ℕ → Box → ℕ → MainListing
+listBeneath♯ zero xs capacity b most base a tally ys = after lost ys
+listBeneath♯ (suc f) xs capacity b most base a tally ys = listArm (listBeneath♯ f xs capacity b most) xs capacity b most base a tally ys
+
+pub listBeneath♯-zero : (f : ℕ) → f ≡ 0 → (xs : List ℕ) (capacity : ℕ) (b : Box) (most base : ℕ) (a : Arm) (tally : ℕ) (ys : List ℕ)
+    → listBeneath♯ f xs capacity b most base a tally ys ≡ after lost ys
+unfolding listBeneath♯
+listBeneath♯-zero f e xs capacity b most base a tally ys = rw e
+
+pub listBeneath♯-suc : (f : ℕ) → (f ≡ 0 → ⊥) → (xs : List ℕ) (capacity : ℕ) (b : Box) (most base : ℕ) (a : Arm) (tally : ℕ) (ys : List ℕ)
+    → listBeneath♯ f xs capacity b most base a tally ys ≡ listArm (listBeneath♯ (f - 1) xs capacity b most) xs capacity b most base a tally ys
+unfolding listBeneath♯
+listBeneath♯-suc zero h xs capacity b most base a tally ys = absurd (h refl)
+listBeneath♯-suc (suc f) h xs capacity b most base a tally ys = let e : suc f - 1 ≡ f = omega arith in rw e
+
+unfoldable pub listRoot : List ℕ → ℕ → Box → ℕ → Arm → List ℕ → After ℕ
+listRoot xs capacity b most a ys =
+    if eqb (a .weight) 0 then after 0 ys else listBeneath♯ deepest xs capacity b most (topLevel capacity) a 0 ys
+
+unfoldable pub mainList♯ : List ℕ → Box → ℕ → List ℕ → After ℕ
+mainList♯ xs b most ys = listRoot xs (getD xs capacityPlace 0) b most (armAt xs rootPlace) ys

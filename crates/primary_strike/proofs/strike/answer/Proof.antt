@@ -1,0 +1,14 @@
+use Rattle.primary_strike.proofs.strike.answer.Statement.{statement}
+use Rattle.primary_strike.specs.Strike.{mainStrikeOf}
+use borrow.Author.Needs.{needs}
+use Rattle.primary_strike.proofs.strike.answer.Tie as tie
+use Rattle.primary_strike.proofs.strike.answer.Reads as reads
+use Rattle.primary_strike.proofs.strike.answer.Lts as lts
+
+-- src/strike.rt:31:1
+returns : tie.Need-returns
+unfolding mainStrikeOf
+returns c = search needs
+
+pub answer-spec : {M : Type 1} → statement M
+answer-spec = tie.close (tie.spec returns)

@@ -1,0 +1,17 @@
+use borrow.Author.Needs.{needs}
+use Rattle.primary_strike.proofs.strike.damaged.Statement.{statement}
+use Rattle.primary_strike.proofs.strike.damaged.Tie as tie
+use Rattle.primary_strike.proofs.strike.damaged.Reads as reads
+use Rattle.primary_strike.proofs.strike.damaged.Lts as lts
+use Rattle.table.proofs.primary.PrimaryArm.none.Reads as none-reads
+
+-- src/strike.rt:44:9
+none-requires : tie.Need-none-requires
+none-requires c κs = search needs
+
+-- src/strike.rt:41:1
+returns : tie.Need-returns
+returns c = rw (← c .none .ensures)
+
+pub damaged-spec : {M : Type 1} → statement M
+damaged-spec = tie.close (tie.spec none-requires returns)
