@@ -1,2 +1,6 @@
+-- What the functions of src/ do with a sound table.
 pub mod Slots
 pub mod Emptying
+pub mod Searching
+pub mod Inserting
+pub mod Striking

@@ -8,7 +8,7 @@ use mathlib.Core.Option.{none, some}
 use native.Mathlib.Omega.{arith}
 use native.Mathlib.Nat.{zero-add}
 use borrow.Author.Tests.{lt-leb, le-leb, eq-eqb, ne-eqb}
-use lib.ListN.{length, getD, length-append, length-map}
+use lib.ListN.{length, getD, length-append}
 use lib.Seq.{sets, length-sets}
 use Rattle.model.specs.Lists.{if_then_else_, filterBy}
 use Rattle.model.specs.Register.{Listed}
@@ -19,7 +19,6 @@ use Rattle.model.specs.Slots.{slotSpace, slotAxis}
 use Rattle.model.specs.Laws.{SameBag}
 use Rattle.model.proofs.Logic.{by-cases}
 use Rattle.model.proofs.Lists.{countIf-append}
-use Rattle.model.proofs.Slots.{map-append}
 use Rattle.model.proofs.Tree.{weight-pos}
 use Rattle.table.specs.Layout.{capacityPlace, rootPlace, levelPlace, listPlace}
 use Rattle.table.specs.Marks.{slotMark, putMark}
@@ -27,7 +26,6 @@ use Rattle.table.specs.Arms.{armAt}
 use Rattle.table.specs.Holds.{armOf}
 use Rattle.table.specs.Tally.{pack}
 use Rattle.table.specs.After.{After, after}
-use Rattle.table.proofs.Frames.{sets-append}
 use Rattle.table.proofs.Levels.{held-shallow}
 use Rattle.table.proofs.Tallies.{visited-pack, pack-visits, pack-found}
 use Rattle.twofold.specs.Rules.{SlotAuxiliary, SlotMain, slotAuxiliary, slotMain, AuxiliaryOf, AuxiliariesOf, ByRules}

@@ -53,14 +53,8 @@ fn lifted(t: &mut [u32], base: u32, capacity: u32, sibling: PrimaryArm, first: u
     ensures { λ u. ⌜ after (mainStruckValue u) (now (t .exit)) ≡ lifted♯ capacity base (primaryArm sibling) first (now (t .entry)) ⌝ }
 {
     let node = sibling.node;
-    lift::lift(
-        t,
-        levels::deeper(base, capacity),
-        base,
-        capacity,
-        node,
-        lift::SMALL,
-    );
+    let from = levels::deeper(base, capacity);
+    lift::lift(t, from, base, capacity, node, lift::SMALL);
     answer(sibling, 0, first)
 }
 

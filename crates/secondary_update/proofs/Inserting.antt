@@ -72,7 +72,7 @@ module _ {B I : Type 0} (X : Axis ℕ B) (R : Register ℕ B I) (s : ℕ) where
       go (inr u) e = k .1 (e ∙ u)
 
 -- the figure is a weight of the tree
-rebuilt-weight : {M I : Type 0} (t : Tree M I) → rebuilt t ≤ weight t
+pub rebuilt-weight : {M I : Type 0} (t : Tree M I) → rebuilt t ≤ weight t
 rebuilt-weight (leaf m) = omega arith
 rebuilt-weight (node i l r) =
     by-cases (evenly l r) (λ t. rw t (omega (arith, rebuilt-weight l, rebuilt-weight r))) (λ u. rw u (omega arith))
@@ -115,7 +115,7 @@ axis-coordinate {A = A} O sound = record {
   level = λ a b e. by-cases (A .below b a) (λ t. O .rises b a t) (λ u. let q = ap (A .at) (sound a b (O .close a b e u)) in omega arith);
 }
 
-sum-one : (w : ℕ) → w ≤ 65536 → sum w 1 ≡ w + 1
+pub sum-one : (w : ℕ) → w ≤ 65536 → sum w 1 ≡ w + 1
 unfolding sum
 sum-one w h = omega arith
 
@@ -179,8 +179,8 @@ module _ {I : Type 0} (A : Axis Mark Box) (f : ℕ → Mark) (R : Register ℕ B
     grown-number : (i : I) (l r : Tree ℕ I) → number (node i l r) ≡ number (grown (node i l r))
     grown-number i l r = by-cases (A .below (f s) (f (least r))) (λ e. rw e) (λ e. rw (e, insert-least (slotAxis f A) R s r e))
 
-    grown-arm : (i : I) (l r : Tree ℕ I) → Sorted (slotAxis f A) (marks (node i l r)) → weight l + weight r ≤ 65536
-        → grownArm (armOf A f (node i l r)) (A .at (f s)) ≡ armOf A f (grown (node i l r))
+    pub grown-arm : (i : I) (l r : Tree ℕ I) → Sorted (slotAxis f A) (marks (node i l r)) → weight l + weight r ≤ 65536
+        → grownArm (armOf A f (node i l r)) (A .at (f s)) ≡ armOf A f (insertLeaf (slotAxis f A) R s (node i l r))
     unfolding grownArm
     grown-arm i l r o h =
         let w = sum-one (weight l + weight r) h ∙ sym (insert-weight (slotAxis f A) R s (node i l r)) in
@@ -260,7 +260,7 @@ module _ {I : Type 0} (A : Axis Mark Box) (f : ℕ → Mark) (R : Register ℕ B
   again-grows at xs rec i l r g c spot deep u h = rw (h .1) (afresh-grows at xs (rec false at xs .words) i l r g c spot (h .0) deep u)
 
   module _ (inC : s < C) where
-    leaf-held : (xs : List ℕ) → slotMark xs s ≡ f s → Held {I = I} A f place C xs (leaf s)
+    pub leaf-held : (xs : List ℕ) → slotMark xs s ≡ f s → Held {I = I} A f place C xs (leaf s)
     leaf-held xs marked = record {
       once = λ q. by-cases (eqb q s) (λ e. rw e (omega arith)) (λ e. rw e (omega arith));
       within = λ q k. by-cases (eqb q s) (λ e. rw (eqb-true q s e) inC) (λ e. absurd (let z = (rw e at k) in omega arith));
@@ -269,13 +269,13 @@ module _ {I : Type 0} (A : Axis Mark Box) (f : ℕ → Mark) (R : Register ℕ B
     }
 
     -- the new slot stands in the grown tree once, and below C
-    grown-once : {xs : List ℕ} (t : Tree ℕ I) → Held A f place C xs t → times s t ≡ 0 → (q : ℕ) → times q t + indicator (eqb q s) ≤ 1
+    pub grown-once : {xs : List ℕ} (t : Tree ℕ I) → Held A f place C xs t → times s t ≡ 0 → (q : ℕ) → times q t + indicator (eqb q s) ≤ 1
     grown-once t h z q =
         by-cases (eqb q s)
         (λ e. let k : times q t ≡ 0 = rw (eqb-true q s e) z in rw e (omega arith))
         (λ e. rw e (omega (arith, h .once q)))
 
-    grown-within : {xs : List ℕ} (t : Tree ℕ I) → Held A f place C xs t → (q : ℕ) → 0 < times q (grow t) → q < C
+    pub grown-within : {xs : List ℕ} (t : Tree ℕ I) → Held A f place C xs t → (q : ℕ) → 0 < times q (insertLeaf (slotAxis f A) R s t) → q < C
     grown-within t h q k =
         by-cases (eqb q s)
         (λ e. rw (eqb-true q s e) inC)

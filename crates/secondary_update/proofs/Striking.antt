@@ -133,7 +133,7 @@ module _ {I : Type 0} (A : Axis Mark Box) (f : ℕ → Mark) (s : ℕ) where
     strikes-least (inRight e h) n = refl
 
 -- where each slot stands once, one of the right child is not the least
-apart-least : {I : Type 0} (i : I) (l r : Tree ℕ I) (s : ℕ) → ((q : ℕ) → times q (node i l r) ≤ 1) → 0 < times s r → least l ≡ s → ⊥
+pub apart-least : {I : Type 0} (i : I) (l r : Tree ℕ I) (s : ℕ) → ((q : ℕ) → times q (node i l r) ≤ 1) → 0 < times s r → least l ≡ s → ⊥
 apart-least i l r s once h e =
     let z = subst (λ q. 0 < times q l) e (times-least l) in
     omega (arith, once s, times-node s i l r)
@@ -191,7 +191,7 @@ module _ {I : Type 0} (A : Axis Mark Box) (f : ℕ → Mark) (R : Register ℕ B
       }
 
   -- the name of a node whose right child is struck: a new one, where the slot was its name
-  renamed-least : (r r′ : Tree ℕ I) (first : ℕ) → Strikes A f s R r r′ → (least r ≡ s → first ≡ least r′) → renamed♯ (least r) s first ≡ least r′
+  pub renamed-least : (r r′ : Tree ℕ I) (first : ℕ) → Strikes A f s R r r′ → (least r ≡ s → first ≡ least r′) → renamed♯ (least r) s first ≡ least r′
   unfolding renamed♯
   renamed-least r r′ first k h =
       by-cases (eqb (least r) s)

@@ -23,11 +23,11 @@ use Rattle.twofold.specs.Rules.{SlotAuxiliary, SlotMain, AuxiliaryOf, Au
 
 module _ (f : ℕ → Mark) where
   -- lists
-  countIf-map : (p : Mark → Bool) (l : List ℕ) → countIf p (map f l) ≡ countIf (λ s. p (f s)) l
+  pub countIf-map : (p : Mark → Bool) (l : List ℕ) → countIf p (map f l) ≡ countIf (λ s. p (f s)) l
   countIf-map p [] = refl
   countIf-map p (s ∷ l) = omega (arith, countIf-map p l)
 
-  sameBag-map : (l k : List ℕ) → SameBag l k → SameBag (map f l) (map f k)
+  pub sameBag-map : (l k : List ℕ) → SameBag l k → SameBag (map f l) (map f k)
   sameBag-map l k e p = countIf-map p l ∙ e (λ s. p (f s)) ∙ sym (countIf-map p k)
 
   all-mapped : {P : Mark → Type 0} {l : List ℕ} → All (λ s. P (f s)) l → All P (map f l)

@@ -1,6 +1,8 @@
 pub mod Frames
 pub mod Over
 pub mod Kept
+pub mod Beneath
+pub mod Node
 pub mod Rules
 pub mod Stands
 pub mod Agrees

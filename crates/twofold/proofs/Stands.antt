@@ -11,7 +11,7 @@ use Rattle.model.specs.Lists.{countIf, filterBy}
 use Rattle.model.specs.Tree.{weight, marks, marksOf}
 use Rattle.model.specs.Fold.{insertRebuilt, strikeRebuilt}
 use Rattle.model.specs.Sizes.{D}
-use Rattle.model.specs.Sheet.{Mark, Box, holds, sheet, alongX, auxiliary, Main, main}
+use Rattle.model.specs.Sheet.{Mark, Box, holds, sheet, alongX, auxiliary, main}
 use Rattle.model.specs.Slots.{slotSpace, slotAxis, mapTree, mapListed}
 use Rattle.model.specs.Laws.{SameBag, All, nil, cons, RegisterLaws}
 use Rattle.model.proofs.Tree.{weight-marks}

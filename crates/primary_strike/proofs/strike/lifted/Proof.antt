@@ -10,7 +10,7 @@ use Rattle.primary_strike.proofs.lift.lift.Reads as lift-reads
 use Rattle.primary_strike.proofs.strike.answer.Reads as answer-reads
 use Rattle.twofold.proofs.levels.deeper.Reads as deeper-reads
 
--- src/strike.rt:57:19
+-- src/strike.rt:56:9
 deeper-requires : tie.Need-deeper-requires
 deeper-requires c κs = search needs
 
@@ -22,14 +22,14 @@ lift-requires c κs = search needs
 answer-requires : tie.Need-answer-requires
 answer-requires c κs = search needs
 
--- src/strike.rt:53:1
+-- src/strike.rt:52:1
 same-length : tie.Need-same-length
 same-length c = search needs
 
--- src/strike.rt:53:1
+-- src/strike.rt:52:1
 returns : tie.Need-returns
 unfolding lifted♯
-returns c = rw (← c .before .before .before .before .deeper .ensures, ← c .before .before .before .lift .ensures, ← c .answer .ensures)
+returns c = rw (← c .before .before .before .before .before .deeper .ensures, ← c .before .before .before .lift .ensures, ← c .answer .ensures)
 
 pub lifted-spec : {M : Type 1} → statement M
 lifted-spec =

@@ -1,0 +1,342 @@
+-- An insertion into a sound table that has room and not the mark leaves a sound table that holds the model's tree, and gives the model's figure. Assumes
+-- nothing.
+use Prim.Native.Nat.{ℕ, suc, _+_, _%_, _≤_, _<_}
+use mathlib.Core.Path.{_≡_, refl, sym, ap, ap₂, subst, _∙_}
+use mathlib.Core.Bool.{false}
+use mathlib.Core.List.{List, [], _∷_}
+use mathlib.Core.Logic.{_⊎_, inl, inr}
+use mathlib.Core.Option.{Option, none, some}
+use native.Mathlib.Omega.{arith}
+use lib.Dec.{eqb}
+use lib.ListN.{length, getD, set, length-set}
+use lib.Seq.{sets, length-sets, getD-set-same, getD-set-other}
+use borrow.Author.Tests.{le-leb, lt-leb}
+use Rattle.model.specs.Lists.{indicator, countIf, insertSorted}
+use Rattle.model.specs.Sizes.{W}
+use Rattle.model.specs.Tree.{Tree, leaf, node, weight, marks, marksOf, least, insertLeaf, rebalance}
+use Rattle.model.specs.Fold.{insertRebuilt}
+use Rattle.model.specs.Sheet.{Mark, markOutside, same, belowX, sheet, alongX, alongY, auxiliary, Main, main}
+use Rattle.model.specs.Slots.{slotSpace, slotAxis}
+use Rattle.model.specs.Laws.{nil, sorted[], sorted∷}
+use Rattle.model.proofs.Logic.{by-order}
+use Rattle.model.proofs.Lists.{all-insertSorted, insertSorted-countIf, insertSorted-length}
+use Rattle.model.proofs.Tree.{weight-marks, rebalance-marks, insert-marks}
+use Rattle.model.proofs.TwoFold.{main-insert-marks}
+use Rattle.table.specs.Layout.{openPlace, capacityPlace, livePlace, slotPlace, mainPlace, auxiliaryPlace, rootPlace, levelPlace, recordPlace}
+use Rattle.table.specs.Marks.{markAt, slotMark, putMark}
+use Rattle.table.specs.Arms.{sum, armAt}
+use Rattle.table.specs.Holds.{armOf, timesIn, times}
+use Rattle.table.specs.After.{After}
+use Rattle.table.proofs.Frames.{sets-other, sets-at, record-same, slotMark-same}
+use Rattle.table.proofs.Spots.{arm-same}
+use Rattle.table.proofs.Held.{times-node, times-least, held-same, Names}
+use Rattle.table.proofs.Levels.{table-main}
+use Rattle.twofold.specs.Rules.{SlotAuxiliary, SlotMain, slotAuxiliary, slotMain, AuxiliariesOf, ByRules, marksMain}
+use Rattle.twofold.specs.TwoFold.{HoldsAuxiliary, HoldsAuxiliaries, TwoFold}
+use Rattle.twofold.proofs.Frames.{root-spot}
+use Rattle.twofold.proofs.Kept.{Clear, clear-spot, kept-header, kept-lists}
+use Rattle.twofold.proofs.Over.{TwoLeavesAt}
+use Rattle.twofold.proofs.Rules.{slotSameness, slotX-laws, rules-auxiliary-times, insert-rules}
+use Rattle.twofold.proofs.Stands.{stands-marks, stands-insert, stands-insertRebuilt}
+use Rattle.twofold.proofs.Agrees.{countIf-map}
+use Rattle.twofold.proofs.Marks.{SameOn, armOf-marks, two-marks, rules-marks, marksMain-marks}
+use Rattle.secondary_update.specs.Insert.{damaged}
+use Rattle.primary_insert.specs.Insert.{mainInsert♯}
+use Rattle.primary_insert.proofs.Inserting.{mainInsert-holds, mainInsert-first}
+use Rattle.primary.specs.Sound.{capacityOf, liveOf, usedAt, HoldsTree, TreeByRules, Holding}
+use Rattle.primary.specs.Insert.{entered, insertSlot, insertLive, tableInsert♯}
+use Rattle.primary.proofs.Searching.{holding-agrees, holding-small, holding-length}
+use Rattle.primary.proofs.Slots.{SameLists, free-slot, each-once-insert}
+
+-- A two-fold tree stays where the words of the main nodes and of all levels, and the marks of its slots, are the same.
+module _ (f : ℕ → Mark) (C : ℕ) (xs ys : List ℕ) (long : length ys ≡ length xs)
+    (nodes : (s : ℕ) → s < C → (j : ℕ) → j < 12 → getD ys (mainPlace s + j) 0 ≡ getD xs (mainPlace s + j) 0)
+    (levels : (i : ℕ) → levelPlace C 0 ≤ i → getD ys i 0 ≡ getD xs i 0) where
+  same-auxiliary : (d name : ℕ) (o : SlotAuxiliary) → name < C
+      → ((u : Tree ℕ (List ℕ)) → o ≡ some u → (s : ℕ) → 0 < times s u → slotMark ys s ≡ slotMark xs s)
+      → HoldsAuxiliary f C d name xs o → HoldsAuxiliary f C d name ys o
+  same-auxiliary d name o n mark h = record {
+    tree = h .tree;
+    is = h .is;
+    arm = arm-same xs ys (auxiliaryPlace name) long (λ j k.
+        let e : auxiliaryPlace name + j ≡ mainPlace name + (8 + j) = omega arith in
+        rw e (nodes name n (8 + j) (omega arith))) ∙ h .arm;
+    held = held-same alongY f (h .tree)
+        (λ s k. record-same xs ys (recordPlace (levelPlace C d) s) long (λ j l. levels (recordPlace (levelPlace C d) s + j) (omega arith)))
+        (mark (h .tree) (h .is)) (h .held);
+  }
+
+  same-auxiliaries : (d : ℕ) (t : SlotMain) → AuxiliariesOf f t → ((s : ℕ) → 0 < times s t → (s < C) × (slotMark ys s ≡ slotMark xs s))
+      → HoldsAuxiliaries f C d xs t → HoldsAuxiliaries f C d ys t
+  same-auxiliaries d (leaf s) of mark h = tt
+  same-auxiliaries d (node i l r) of mark h = (
+    same-auxiliary d (least r) i (mark (least r) (omega (arith, times-node (least r) i l r, times-least r)) .0)
+        (λ u is s k. mark s (subst (λ n. 0 < n) (rules-auxiliary-times f (of .0) is s) k) .1) (h .0),
+    same-auxiliaries (suc d) l (of .1) (λ s k. mark s (omega (arith, times-node s i l r))) (h .1),
+    same-auxiliaries (suc d) r (of .2) (λ s k. mark s (omega (arith, times-node s i l r))) (h .2),
+  )
+
+  two-same : (d : ℕ) (t : SlotMain) → AuxiliariesOf f t → ((s : ℕ) → 0 < times s t → slotMark ys s ≡ slotMark xs s)
+      → TwoFold f C d xs t → TwoFold f C d ys t
+  two-same d t of mark h = record {
+    main = held-same alongX f t
+        (λ s k. record-same xs ys (mainPlace s) long (λ j l. nodes s (h .main .within s (k .0)) j (omega arith))) mark (h .main);
+    auxiliaries = same-auxiliaries d t of (λ s k. (h .main .within s k, mark s k)) (h .auxiliaries);
+  }
+
+-- THE MARK ENTERED
+
+module _ (m : Mark) (s live : ℕ) (xs : List ℕ) (room : slotPlace s + 3 ≤ length xs) where
+  abbrev written : List ℕ
+  written = m .x ∷ m .y ∷ m .tag ∷ []
+
+  entered-sets : entered m s live xs ≡ set (sets xs (slotPlace s) written) livePlace (sum live 1)
+  unfolding entered putMark
+  entered-sets = rw (le-leb (slotPlace s + 3) (length xs) room)
+
+  entered-length : length (entered m s live xs) ≡ length xs
+  entered-length = rw entered-sets (length-set (sets xs (slotPlace s) written) livePlace (sum live 1) ∙ length-sets xs (slotPlace s) written)
+
+  entered-other : (i : ℕ) → (i ≡ livePlace → ⊥) → (i < slotPlace s) ⊎ (slotPlace s + 3 ≤ i) → getD (entered m s live xs) i 0 ≡ getD xs i 0
+  entered-other i n out =
+      rw entered-sets
+      (getD-set-other (sets xs (slotPlace s) written) livePlace i (sum live 1) 0 n ∙ sets-other written xs (slotPlace s) i out)
+
+  entered-live : live ≤ 65536 → getD (entered m s live xs) livePlace 0 ≡ live + 1
+  unfolding sum
+  entered-live few =
+      rw entered-sets
+      (getD-set-same (sets xs (slotPlace s) written) livePlace ((live + 1) % 4294967296) 0 (omega (arith, length-sets xs (slotPlace s) written))
+      ∙ omega arith)
+
+  entered-word : (j : ℕ) → j < 3 → getD (entered m s live xs) (slotPlace s + j) 0 ≡ getD written j 0
+  entered-word j h =
+      rw entered-sets
+      (getD-set-other (sets xs (slotPlace s) written) livePlace (slotPlace s + j) (sum live 1) 0 (omega arith)
+      ∙ sets-at written xs (slotPlace s) j h room)
+
+  entered-own : slotMark (entered m s live xs) s ≡ m
+  unfolding slotMark markAt
+  entered-own =
+      let e : slotPlace s + 0 ≡ slotPlace s = omega arith in
+      let w : getD (entered m s live xs) (slotPlace s) 0 ≡ m .x =
+      ap (λ i. getD (entered m s live xs) i 0) (sym e) ∙ entered-word 0 (omega arith) in
+      rw (entered-length, le-leb (slotPlace s + 3) (length xs) room, w, entered-word 1 (omega arith), entered-word 2 (omega arith))
+
+  entered-mark : (q : ℕ) → (q ≡ s → ⊥) → slotMark (entered m s live xs) q ≡ slotMark xs q
+  entered-mark q n =
+      slotMark-same xs (entered m s live xs) q entered-length (λ j k. entered-other (slotPlace q + j) (omega arith)
+      (by-order q s (λ o. inl (omega arith)) (λ e. absurd (n e)) (λ o. inr (omega arith))))
+
+  entered-arm : armAt (entered m s live xs) rootPlace ≡ armAt xs rootPlace
+  entered-arm = arm-same xs (entered m s live xs) rootPlace entered-length (λ j k. entered-other (rootPlace + j) (omega arith) (inl (omega arith)))
+
+  entered-two : {f : ℕ → Mark} {C : ℕ} (t : SlotMain) → s < C → times s t ≡ 0 → AuxiliariesOf f t → TwoFold f C 0 xs t
+      → TwoFold f C 0 (entered m s live xs) t
+  entered-two {f = f} {C = C} t low z of h =
+      two-same f C xs (entered m s live xs) entered-length
+      (λ q k j l. entered-other (mainPlace q + j) (omega arith)
+      (by-order q s (λ o. inl (omega arith)) (λ e. inr (omega arith)) (λ o. inr (omega arith))))
+      (λ i k. entered-other i (omega arith) (inr (omega arith)))
+      0 t of (λ q k. entered-mark q (λ e. omega (arith, k, ap (λ q. times q t) e))) h
+
+  -- the tree by the marks of the words with the new one
+  entered-same : (l : List ℕ) → timesIn s l ≡ 0 → SameOn (slotMark xs) (slotMark (entered m s live xs)) l
+  entered-same l z q k = sym (entered-mark q (λ e. omega (arith, k, ap (λ q. timesIn q l) e)))
+
+-- the words of the root's arm are not of a mark, nor before the capacity's end
+pub root-clear : (C : ℕ) → Clear C rootPlace 4
+root-clear C = clear-spot {P = λ q. ⊥} root-spot
+
+-- A tree that words hold by marks g, which are those of its slots, they hold by their own marks.
+module _ {g : ℕ → Mark} {C : ℕ} {ys : List ℕ} (t : SlotMain) (is : armAt ys rootPlace ≡ armOf alongX g t) (two : TwoFold g C 0 ys t) (rules : ByRules g t) where
+  own-marks : SameOn g (slotMark ys) (marks t)
+  own-marks q k = sym (two .main .marked q k)
+
+  pub settled-holds : capacityOf ys ≡ C → HoldsTree ys (some t)
+  settled-holds capacity = (
+    is ∙ armOf-marks g (slotMark ys) alongX t own-marks,
+    subst (λ c. TwoFold (slotMark ys) c 0 ys t) (sym capacity) (two-marks g (slotMark ys) t own-marks (rules .auxiliaries) two),
+  )
+
+  pub settled-rules : TreeByRules ys (some t)
+  settled-rules = rules-marks g (slotMark ys) t own-marks rules
+
+  pub settled-stands : marksMain (slotMark ys) (some t) ≡ marksMain g (some t)
+  settled-stands = sym (marksMain-marks g (slotMark ys) t own-marks rules)
+
+-- THE TREE
+
+-- the slots of the tree after an insertion
+insert-slots : (g : ℕ → Mark) (s : ℕ) (t : SlotMain) → ByRules g t → (q : ℕ)
+    → times q (rebalance (slotAxis g alongX) (slotAuxiliary g) (insertLeaf (slotAxis g alongX) (slotAuxiliary g) s t)) ≡ times q t + indicator (eqb q s)
+insert-slots g s t r q =
+    let u = insertLeaf (slotAxis g alongX) (slotAuxiliary g) s t in
+    let e = rebalance-marks (slotAxis g alongX) (slotAuxiliary g) u in
+    let k = insert-marks (slotSpace g sheet) (slotSameness g) (slotAxis g alongX) (slotX-laws g) (slotAuxiliary g) s t (r .sorted) in
+    omega (arith, ap (timesIn q) (e ∙ k), insertSorted-countIf (slotAxis g alongX .below) (eqb q) s (marks t))
+
+lone-rules : (g : ℕ → Mark) (s : ℕ) → ByRules g (leaf s)
+lone-rules g s = record { sorted = sorted∷ nil sorted[]; balanced = tt; auxiliaries = tt }
+
+-- what an insertion of the slot s into the tree o leaves, where slot q has the mark g q
+record Put (g : ℕ → Mark) (C s : ℕ) (ws : List ℕ) (p : After ℕ) (o : Option SlotMain) : Type 0 where
+  tree : SlotMain
+  is : slotMain g .insert s o ≡ some tree
+  leaves : TwoLeavesAt g C 0 rootPlace ws (p .words) tree
+  rules : ByRules g tree
+  out : p .out ≡ insertRebuilt (slotAxis g alongX) (slotAuxiliary g) s o
+  fine : p .out ≡ damaged → ⊥
+  slots : (q : ℕ) → times q tree ≡ timesIn q (marksOf o) + indicator (eqb q s)
+
+module _ (m : Mark) (s live : ℕ) (xs : List ℕ) (C : ℕ) (capacity : capacityOf xs ≡ C) (small : C ≤ 65536) (long : length xs ≡ W C) (low : s < C) where
+  abbrev ws : List ℕ
+  ws = entered m s live xs
+
+  abbrev g : ℕ → Mark
+  g = slotMark (entered m s live xs)
+
+  room-mark : slotPlace s + 3 ≤ length xs
+  room-mark = omega (arith, table-main C small .runRoom)
+
+  put-of : (o : Option SlotMain) → HoldsTree xs o → TreeByRules xs o → timesIn s (marksOf o) ≡ 0
+      → countIf (λ q. same (g s) (g q)) (marksOf o) ≡ 0 → length (marksOf o) < C → Put g C s ws (mainInsert♯ (g s) s ws) o
+  put-of none h r z new room =
+      let a = entered-arm m s live xs room-mark in
+      let k = mainInsert-first g C s small low ws (entered-length m s live xs room-mark ∙ long) refl (ap (λ a. a .weight) a ∙ h) in
+      record {
+        tree = leaf s;
+        is = refl;
+        leaves = k .0;
+        rules = lone-rules g s;
+        out = k .1;
+        fine = λ e. omega (arith, k .1);
+        slots = λ q. omega arith;
+      }
+  put-of (some t) h r z new room =
+      let on = entered-same m s live xs room-mark (marks t) z in
+      let by = rules-marks (slotMark xs) g t on r in
+      let two : TwoFold g C 0 xs t =
+      subst (λ c. TwoFold g c 0 xs t) capacity (two-marks (slotMark xs) g t on (r .auxiliaries) (h .1)) in
+      let k = mainInsert-holds g C s small low ws (entered-length m s live xs room-mark ∙ long) refl t
+      (entered-other m s live xs room-mark capacityPlace (omega arith) (inl (omega arith)) ∙ capacity)
+      (entered-arm m s live xs room-mark ∙ h .0 ∙ armOf-marks (slotMark xs) g alongX t on)
+      (entered-two m s live xs room-mark t low z (by .auxiliaries) two) by new (omega (arith, weight-marks t)) in
+      record {
+        tree = rebalance (slotAxis g alongX) (slotAuxiliary g) (insertLeaf (slotAxis g alongX) (slotAuxiliary g) s t);
+        is = refl;
+        leaves = k .0;
+        rules = insert-rules g s t new by;
+        out = k .1;
+        fine = k .2;
+        slots = insert-slots g s t by;
+      }
+
+marks-by : (xs : List ℕ) (g : ℕ → Mark) (o : Option SlotMain) → SameOn (slotMark xs) g (marksOf o) → TreeByRules xs o
+    → marksMain g o ≡ marksMain (slotMark xs) o
+marks-by xs g none on r = refl
+marks-by xs g (some t) on r = sym (marksMain-marks (slotMark xs) g t on r)
+
+-- THE TABLE
+
+module _ (xs : List ℕ) (T : Main) (h : Holding xs T) (m : Mark) (within : markOutside m ≡ false) (new : countIf (same m) (marksOf T) ≡ 0)
+    (room : length (marksOf T) < capacityOf xs) where
+  abbrev C : ℕ
+  C = capacityOf xs
+
+  -- the first free slot, the words with the mark there, and the marks that they say
+  abbrev slot : ℕ
+  slot = usedAt xs (liveOf xs)
+
+  abbrev vs : List ℕ
+  vs = entered m slot (liveOf xs) xs
+
+  abbrev f : ℕ → Mark
+  f = slotMark vs
+
+  free : (slot < C) × (timesIn slot (marksOf (h .slots)) ≡ 0)
+  free = free-slot (h .free) (omega (arith, h .live))
+
+  enough : slotPlace slot + 3 ≤ length xs
+  enough = room-mark m slot (liveOf xs) xs C refl (holding-small xs T h) (h .long) (free .0)
+
+  own : f slot ≡ m
+  own = entered-own m slot (liveOf xs) xs enough
+
+  on : SameOn (slotMark xs) f (marksOf (h .slots))
+  on = entered-same m slot (liveOf xs) xs enough (marksOf (h .slots)) (free .1)
+
+  stood : marksMain f (h .slots) ≡ T
+  stood = marks-by xs f (h .slots) on (h .rules) ∙ h .stands
+
+  unmet : countIf (λ q. same (f slot) (f q)) (marksOf (h .slots)) ≡ 0
+  unmet =
+      let l = marksOf (h .slots) in
+      subst (λ a. countIf (λ q. same a (f q)) l ≡ 0) (sym own)
+      (sym (countIf-map f (same m) l) ∙ ap (countIf (same m)) (sym (stands-marks f (h .slots)) ∙ ap marksOf stood) ∙ new)
+
+  -- the words and the figure that the insertion leaves
+  p : After ℕ
+  p = mainInsert♯ (f slot) slot vs
+
+  goes : tableInsert♯ m xs ≡ p
+  unfolding tableInsert♯ insertLive insertSlot p
+  goes = rw (lt-leb C slot (free .0)) (ap (λ a. mainInsert♯ a slot vs) (sym own))
+
+  put : Put f C slot vs p (h .slots)
+  unfolding p
+  put =
+      put-of m slot (liveOf xs) xs C refl (holding-small xs T h) (h .long) (free .0) (h .slots) (h .holds) (h .rules) (free .1) unmet
+      (omega (arith, holding-length xs T h))
+
+  stands-put : marksMain f (some (put .tree)) ≡ main .insert m T
+  stands-put =
+      ap (marksMain f) (sym (put .is)) ∙ stands-insert f slot (h .slots) ∙ ap₂ (λ a o. main .insert a o) own stood
+
+  names-low : (q : ℕ) → Names (put .tree) q → q < C
+  names-low q k = put .leaves .held .main .within q (k .0)
+
+  header : (i : ℕ) → i < 64 → (i < rootPlace) ⊎ (rootPlace + 4 ≤ i) → (i ≡ livePlace → ⊥) → getD (p .words) i 0 ≡ getD xs i 0
+  header i low out ne =
+      kept-header names-low (root-clear C) (put .leaves .frame) i low out ∙ entered-other m slot (liveOf xs) xs enough i ne (inl (omega arith))
+
+  put-live : liveOf (p .words) ≡ liveOf xs + 1
+  put-live =
+      kept-header names-low (root-clear C) (put .leaves .frame) livePlace (omega arith) (inl (omega arith))
+      ∙ entered-live m slot (liveOf xs) xs enough (omega (arith, h .live, holding-small xs T h))
+
+  put-lists : SameLists xs (p .words)
+  put-lists = record {
+    capacity = header capacityPlace (omega arith) (inl (omega arith)) (omega arith);
+    same = λ i low high. kept-lists names-low (root-clear C) (put .leaves .frame) i low high
+        ∙ entered-other m slot (liveOf xs) xs enough i (omega arith) (inr (omega (arith, free .0)));
+  }
+
+  put-marks : marksOf (main .insert m T) ≡ insertSorted belowX m (marksOf T)
+  put-marks = main-insert-marks m T (holding-agrees xs T h .sorted)
+
+  put-holding : Holding (p .words) (main .insert m T)
+  put-holding =
+      let a = put .leaves in
+      let e = put-lists .capacity in
+      record {
+        isOpen = header openPlace (omega arith) (inl (omega arith)) (omega arith) ∙ h .isOpen;
+        capacity = rw e (h .capacity);
+        long = a .frame .long ∙ entered-length m slot (liveOf xs) xs enough ∙ h .long ∙ ap W (sym e);
+        slots = some (put .tree);
+        stands = settled-stands (put .tree) (a .is) (a .held) (put .rules) ∙ stands-put;
+        holds = settled-holds (put .tree) (a .is) (a .held) (put .rules) e;
+        rules = settled-rules (put .tree) (a .is) (a .held) (put .rules);
+        coordinates = rw put-marks (all-insertSorted belowX m within (h .coordinates));
+        live = put-live ∙ ap (λ k. k + 1) (h .live) ∙ sym (ap length put-marks ∙ insertSorted-length belowX m (marksOf T));
+        free = each-once-insert put-lists put-live (h .free) (omega (arith, h .live)) (put .slots);
+      }
+
+  pub insert-sound : Holding (tableInsert♯ m xs .words) (main .insert m T) × (tableInsert♯ m xs .out ≡ insertRebuilt alongX auxiliary m T)
+      × (tableInsert♯ m xs .out ≡ damaged → ⊥)
+  insert-sound =
+      rw goes (
+        put-holding,
+        put .out ∙ stands-insertRebuilt f slot (h .slots) ∙ ap₂ (λ a o. insertRebuilt alongX auxiliary a o) own stood,
+        put .fine,
+      )
