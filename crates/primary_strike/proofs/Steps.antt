@@ -34,7 +34,8 @@ use Rattle.secondary_update.proofs.Striking.{Strikes, leftGoes, rightGoes, inLe
 use Rattle.secondary_update.proofs.Auxiliaries.{auxiliary-strike}
 use Rattle.primary_build.proofs.Collecting.{without, without-append, without-none}
 use Rattle.primary_build.proofs.Building.{main-rebuild-holds}
-use Rattle.primary_strike.specs.Strike.{MainStrike, mainStrikeOf, lifted♯, struckFresh, struckAfresh♯, armOnly, struckAuxiliary♯, mainJoin♯}
+use Rattle.secondary_update.specs.Updates.{Strike, strikeOf}
+use Rattle.primary_strike.specs.Strike.{lifted♯, struckFresh, struckAfresh♯, armOnly, struckAuxiliary♯, mainJoin♯}
 use Rattle.twofold.proofs.Beneath.{deep-two}
 use Rattle.twofold.proofs.Node.{kept-tree, kept-sibling, node-leaves}
 use Rattle.primary_strike.proofs.Lifting.{small-depth, lift-holds}
@@ -63,7 +64,7 @@ module _ {I : Type 0} (A : Axis Mark Box) (f : ℕ → Mark) (s : ℕ) (R : Regi
       rw (without-append s (marks l) (marks r), strikes-marks h (λ q. omega (arith, once q, times-node q i l r)), without-none s (marks l) z)
 
 -- what a strike of s from t leaves: t′ mended, the figure, and t′'s least where t's was struck
-pub record LeavesMain (f : ℕ → Mark) (C s d : ℕ) (xs : List ℕ) (t t′ : SlotMain) (p : After MainStrike) : Type 0 where
+pub record LeavesMain (f : ℕ → Mark) (C s d : ℕ) (xs : List ℕ) (t t′ : SlotMain) (p : After Strike) : Type 0 where
   pub leaves : TwoLeaves f C d xs (p .out .arm) (p .words) (rebalance (slotAxis f alongX) (slotAuxiliary f) t′)
   pub figure : p .out .rebuilt ≡ rebuilt t′
   pub first : least t ≡ s → p .out .first ≡ least t′
@@ -87,7 +88,7 @@ module _ (f : ℕ → Mark) (s : ℕ) where
 -- the mirror of its writing
 pub join-main : (f : ℕ → Mark) (name : ℕ) (l r : Arm) (x : Tree ℕ (List ℕ)) (n first : ℕ) (zs : List ℕ)
     → mainJoin♯ name l r (armOf alongY f x) n first zs
-    ≡ after (mainStrikeOf (overArm name l r) n first) (putArm (putRecord zs (mainPlace name) l r) (auxiliaryPlace name) (armOf alongY f x))
+    ≡ after (strikeOf (overArm name l r) n first) (putArm (putRecord zs (mainPlace name) l r) (auxiliaryPlace name) (armOf alongY f x))
 unfolding mainJoin♯
 join-main f name l r x n first zs = rw (ne-eqb (weight x) 0 (omega (arith, weight-pos x)))
 
@@ -103,7 +104,7 @@ module _ (f : ℕ → Mark) (C : ℕ) (small : C ≤ 65536) (s : ℕ) where
   pub goes-holds : (d : ℕ) (u : SlotMain) (xs : List ℕ) (t : SlotMain) (first : ℕ) → length xs ≡ W C → TwoFold f C (suc d) xs u → ByRules f u → weight u ≤ 3
       → suc d + depth u ≤ D C → suc d + depth u < 40 → (least t ≡ s → first ≡ least u)
       → LeavesMain f C s d xs t u (lifted♯ C (levelPlace C d) (armOf alongX f u) first xs)
-  unfolding lifted♯ mainStrikeOf
+  unfolding lifted♯ strikeOf
   goes-holds d u xs t first ln h b w deep low e =
       let a = lift-holds f C small 3 u d xs ln h (b .auxiliaries) w (small-depth u (b .balanced) w) deep low in
       rw (deeper-level C d small (omega arith)) record {
@@ -116,7 +117,7 @@ module _ (f : ℕ → Mark) (C : ℕ) (small : C ≤ 65536) (s : ℕ) where
   pub afresh-holds : (d d₀ : ℕ) (t t′ : SlotMain) (xs : List ℕ) → Strikes alongX f s R t t′ → length xs ≡ W C → getD xs capacityPlace 0 ≡ C → TwoFold f C d xs t
       → ByRules f t → depth t < 40 → d + depth (rebalance X R t′) ≤ D C → rebalance X R t′ ≡ build X R d₀ (marks t′) → rebuilt t′ ≡ weight t′
       → LeavesMain f C s d xs t t′ (struckAfresh♯ (levelPlace C d) s (armOf alongX f t) xs)
-  unfolding struckAfresh♯ struckFresh mainStrikeOf
+  unfolding struckAfresh♯ struckFresh strikeOf
   afresh-holds d d₀ t t′ xs k ln c h b low deep e n =
       let w : weight t - 1 ≡ weight t′ = omega (arith, strikes-weight alongX f s R k) in
       let a = main-rebuild-holds f C s (weight t′) d₀ d t (marks t′) xs (h .main) low (b .sorted) c small ln
@@ -199,7 +200,7 @@ module _ (f : ℕ → Mark) (C : ℕ) (small : C ≤ 65536) (s : ℕ) where
       struck-right = deep-two (λ q k. u .leaves .held .within q (k .0)) (u .leaves .frame) (suc d) r (omega arith) (two-right h)
 
       -- the left child is struck
-      pub left-node : (l′ : SlotMain) (p : After MainStrike) → alongX .below (f s) (f (least r)) ≡ true → Strikes alongX f s R l l′
+      pub left-node : (l′ : SlotMain) (p : After Strike) → alongX .below (f s) (f (least r)) ≡ true → Strikes alongX f s R l l′
           → LeavesMain f C s (suc d) (struck .words) l l′ p
           → let m = rebalance X R l′ in
           TwoLeaves f C d xs (overArm (least r) (armOf alongX f m) (armOf alongX f r))
@@ -219,7 +220,7 @@ module _ (f : ℕ → Mark) (C : ℕ) (small : C ≤ 65536) (s : ℕ) where
           (struck-rules f s k (rules-left f b) .auxiliaries) (b .auxiliaries .2)
 
       -- or the right one
-      pub right-node : (r′ : SlotMain) (p : After MainStrike) → alongX .below (f s) (f (least r)) ≡ false → Strikes alongX f s R r r′
+      pub right-node : (r′ : SlotMain) (p : After Strike) → alongX .below (f s) (f (least r)) ≡ false → Strikes alongX f s R r r′
           → LeavesMain f C s (suc d) (struck .words) r r′ p
           → let m = rebalance X R r′ in
           TwoLeaves f C d xs (overArm (least m) (armOf alongX f l) (armOf alongX f m))

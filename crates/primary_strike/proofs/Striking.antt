@@ -33,10 +33,11 @@ use Rattle.twofold.proofs.Frames.{TwoFrame, arm-twoFrame}
 use Rattle.twofold.proofs.Rules.{rules-left, rules-right}
 use Rattle.twofold.proofs.Over.{TwoLeavesAt, two-left, two-right, top-level, deeper-level, two-main}
 use Rattle.secondary_update.specs.Insert.{damaged}
-use Rattle.secondary_update.specs.Strike.{renamed♯}
+use Rattle.secondary_update.specs.Strike.{ifStruck, renamed♯}
 use Rattle.secondary_update.proofs.Inserting.{rebuilt-weight}
 use Rattle.secondary_update.proofs.Striking.{strike-leads, struckNode, Strikes, leftGoes, rightGoes, inLeft, inRight, leads-strikes, strikes-in, strikes-weight, renamed-least, apart-least}
-use Rattle.primary_strike.specs.Strike.{MainStrike, MainStriking, mainStrikeOf, struckAuxiliary♯, ifMainStruck, mainLeft, mainRight, mainStrikeRecord, mainStrikeNode, strikeBeneath♯, putStruck, strikeRoot, mainStrike♯}
+use Rattle.secondary_update.specs.Updates.{Strike, strikeOf}
+use Rattle.primary_strike.specs.Strike.{MainStriking, struckAuxiliary♯, mainLeft, mainRight, mainStrikeRecord, mainStrikeNode, strikeBeneath♯, putStruck, strikeRoot, mainStrike♯}
 use Rattle.twofold.proofs.Node.{root-leaves}
 use Rattle.primary_strike.proofs.Steps.{LeavesMain, join-main, struck-rules, goes-holds, afresh-holds, node-struck, struck-long, struck-capacity, struck-left, struck-right, left-node, right-node}
 
@@ -65,13 +66,13 @@ module _ (f : ℕ → Mark) (C : ℕ) (small : C ≤ 65536) (s : ℕ) where
     left-even : (l′ : SlotMain) → alongX .below (f s) (f (least r)) ≡ true → Strikes alongX f s R l l′ → evenly l′ r ≡ true → StruckBy rec (suc d) l l′
         → LeavesMain f C s d xs (node i l r) (node (R .strike s i) l′ r)
         (mainLeft rec C (f s) s (levelPlace C d) (least r) (arms (armOf alongX f l) (armOf alongX f r)) (armOf alongX f (node i l r)) xs)
-    unfolding mainLeft ifMainStruck mainStrikeOf
+    unfolding mainLeft ifStruck strikeOf
     left-even l′ e k even struckBy =
         let u = node-struck f C small s d i l r xs ln c h b level (omega (arith, strikes-in alongX f s R k, times-node s i l r)) in
         let ys : List ℕ = struckAuxiliary♯ (f s) s (levelPlace C d) (least r) xs .words in
         let q = struckBy ys (struck-long f C small s d i l r xs ln c h b level u) (struck-capacity f C small s d i l r xs ln c h b level u)
         (struck-left f C small s d i l r xs ln c h b level u) in
-        let p : After MainStrike = rec (levelPlace C (suc d)) (armOf alongX f l) ys in
+        let p : After Strike = rec (levelPlace C (suc d)) (armOf alongX f l) ys in
         let m : SlotMain = rebalance X R l′ in
         let w = strikes-weight alongX f s R k in
         let many : eqb (weight l) 1 ≡ false = ne-eqb (weight l) 1 (omega (arith, weight-pos l′)) in
@@ -87,13 +88,13 @@ module _ (f : ℕ → Mark) (C : ℕ) (small : C ≤ 65536) (s : ℕ) where
     right-even : (r′ : SlotMain) → alongX .below (f s) (f (least r)) ≡ false → Strikes alongX f s R r r′ → evenly l r′ ≡ true → StruckBy rec (suc d) r r′
         → LeavesMain f C s d xs (node i l r) (node (R .strike s i) l r′)
         (mainRight rec C (f s) s (levelPlace C d) (least r) (arms (armOf alongX f l) (armOf alongX f r)) (armOf alongX f (node i l r)) xs)
-    unfolding mainRight ifMainStruck mainStrikeOf
+    unfolding mainRight ifStruck strikeOf
     right-even r′ e k even struckBy =
         let u = node-struck f C small s d i l r xs ln c h b level (omega (arith, strikes-in alongX f s R k, times-node s i l r)) in
         let ys : List ℕ = struckAuxiliary♯ (f s) s (levelPlace C d) (least r) xs .words in
         let q = struckBy ys (struck-long f C small s d i l r xs ln c h b level u) (struck-capacity f C small s d i l r xs ln c h b level u)
         (struck-right f C small s d i l r xs ln c h b level u) in
-        let p : After MainStrike = rec (levelPlace C (suc d)) (armOf alongX f r) ys in
+        let p : After Strike = rec (levelPlace C (suc d)) (armOf alongX f r) ys in
         let m : SlotMain = rebalance X R r′ in
         let w = strikes-weight alongX f s R k in
         let many : eqb (weight r) 1 ≡ false = ne-eqb (weight r) 1 (omega (arith, weight-pos r′)) in
@@ -220,7 +221,7 @@ module _ (f : ℕ → Mark) (C : ℕ) (small : C ≤ 65536) (s : ℕ) where
   strikeBeneath-holds fuel k d xs ln c h b deep deep′ n low = strikes-beneath fuel k d b deep deep′ n low xs ln c h
 
   -- the arm goes to the root
-  put-holds : (xs : List ℕ) {t t′ : SlotMain} (p : After MainStrike) → Strikes alongX f s R t t′ → length xs ≡ W C → ByRules f t → LeavesMain f C s 0 xs t t′ p
+  put-holds : (xs : List ℕ) {t t′ : SlotMain} (p : After Strike) → Strikes alongX f s R t t′ → length xs ≡ W C → ByRules f t → LeavesMain f C s 0 xs t t′ p
       → LeavesRoot f C xs t′ (putStruck p)
   unfolding putStruck
   put-holds xs {t = t} {t′ = t′} p k ln b q =

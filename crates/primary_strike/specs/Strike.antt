@@ -13,35 +13,20 @@ use Rattle.table.specs.Marks.{slotMark}
 use Rattle.table.specs.Arms.{Arm, Record, noArm, overArm, armAt, putArm, recordAt, putRecord}
 use Rattle.table.specs.After.{After, after}
 use Rattle.twofold.specs.Levels.{topLevel, deeper}
-use Rattle.secondary_update.specs.Updates.{Strike}
+use Rattle.secondary_update.specs.Updates.{Strike, strikeOf, noStrike}
 use Rattle.secondary_update.specs.Node.{balanced}
 use Rattle.secondary_update.specs.Insert.{damaged}
-use Rattle.secondary_update.specs.Strike.{renamed♯, strike♯}
+use Rattle.secondary_update.specs.Strike.{ifStruck, renamed♯, strike♯}
 use Rattle.primary_build.specs.Build.{Freshly, mainRebuild♯}
 use Rattle.primary_strike.specs.Lift.{smallDepth, lift♯}
 
--- what a strike gives: the tree's arm, the weight of the node built afresh, or 0, and the least slot left, where the least was struck
-pub record MainStrike : Type 0 where
-  pub arm : Arm
-  pub rebuilt : ℕ
-  pub first : ℕ
+unfoldable pub lifted♯ : ℕ → ℕ → Arm → ℕ → List ℕ → After Strike
+lifted♯ capacity base a first xs = after (strikeOf a 0 first) (lift♯ smallDepth capacity (deeper base capacity) base (a .node) xs)
 
-abbrev pub mainStrike : Arm → ℕ → ℕ → MainStrike
-mainStrike a n s = record { arm = a; rebuilt = n; first = s }
+unfoldable pub struckFresh : ℕ → After Freshly → After Strike
+struckFresh w p = after (strikeOf (p .out .arm) w (p .out .first)) (p .words)
 
-unfoldable pub mainStrikeOf : Arm → ℕ → ℕ → MainStrike
-mainStrikeOf a n s = mainStrike a n s
-
-abbrev pub noMainStrike : MainStrike
-noMainStrike = mainStrike noArm 0 0
-
-unfoldable pub lifted♯ : ℕ → ℕ → Arm → ℕ → List ℕ → After MainStrike
-lifted♯ capacity base a first xs = after (mainStrikeOf a 0 first) (lift♯ smallDepth capacity (deeper base capacity) base (a .node) xs)
-
-unfoldable pub struckFresh : ℕ → After Freshly → After MainStrike
-struckFresh w p = after (mainStrikeOf (p .out .arm) w (p .out .first)) (p .words)
-
-unfoldable pub struckAfresh♯ : ℕ → ℕ → Arm → List ℕ → After MainStrike
+unfoldable pub struckAfresh♯ : ℕ → ℕ → Arm → List ℕ → After Strike
 struckAfresh♯ base s a xs = struckFresh (a .weight - 1) (mainRebuild♯ base s (a .weight - 1) a xs)
 
 unfoldable pub armOnly : After Strike → After Arm
@@ -50,48 +35,44 @@ armOnly p = after (p .out .arm) (p .words)
 unfoldable pub struckAuxiliary♯ : Mark → ℕ → ℕ → ℕ → List ℕ → After Arm
 struckAuxiliary♯ m s base name xs = armOnly (strike♯ alongY deepest (recordPlace base) m s true (armAt xs (auxiliaryPlace name)) xs)
 
-unfoldable pub mainJoin♯ : ℕ → Arm → Arm → Arm → ℕ → ℕ → List ℕ → After MainStrike
+unfoldable pub mainJoin♯ : ℕ → Arm → Arm → Arm → ℕ → ℕ → List ℕ → After Strike
 mainJoin♯ name l r x n first xs =
-    if eqb (x .weight) 0 then after noMainStrike xs
-    else after (mainStrikeOf (overArm name l r) n first) (putArm (putRecord xs (mainPlace name) l r) (auxiliaryPlace name) x)
+    if eqb (x .weight) 0 then after noStrike xs
+    else after (strikeOf (overArm name l r) n first) (putArm (putRecord xs (mainPlace name) l r) (auxiliaryPlace name) x)
 
 -- where the arm's level begins, the arm and the words
 abbrev pub MainStriking : Type 0
-MainStriking = ℕ → Arm → List ℕ → After MainStrike
+MainStriking = ℕ → Arm → List ℕ → After Strike
 
--- the node is written where the tree beneath was not damaged
-unfoldable pub ifMainStruck : After MainStrike → (Arm → ℕ → ℕ → List ℕ → After MainStrike) → After MainStrike
-ifMainStruck p next = if eqb (p .out .arm .weight) 0 then after noMainStrike (p .words) else next (p .out .arm) (p .out .rebuilt) (p .out .first) (p .words)
-
-unfoldable pub mainLeft : MainStriking → ℕ → Mark → ℕ → ℕ → ℕ → Record → Arm → List ℕ → After MainStrike
+unfoldable pub mainLeft : MainStriking → ℕ → Mark → ℕ → ℕ → ℕ → Record → Arm → List ℕ → After Strike
 mainLeft rec capacity m s base name p a xs =
     if eqb (p .left .weight) 1 then lifted♯ capacity base (p .right) name xs
     else (if balanced (p .left .weight - 1) (p .right .weight)
     then (let x : After Arm = struckAuxiliary♯ m s base name xs in
-    ifMainStruck (rec (deeper base capacity) (p .left) (x .words)) (λ c n first ws. mainJoin♯ name c (p .right) (x .out) n first ws))
+    ifStruck (rec (deeper base capacity) (p .left) (x .words)) (λ c n first ws. mainJoin♯ name c (p .right) (x .out) n first ws))
     else struckAfresh♯ base s a xs)
 
-unfoldable pub mainRight : MainStriking → ℕ → Mark → ℕ → ℕ → ℕ → Record → Arm → List ℕ → After MainStrike
+unfoldable pub mainRight : MainStriking → ℕ → Mark → ℕ → ℕ → ℕ → Record → Arm → List ℕ → After Strike
 mainRight rec capacity m s base name p a xs =
     if eqb (p .right .weight) 1 then lifted♯ capacity base (p .left) 0 xs
     else (if balanced (p .left .weight) (p .right .weight - 1)
     then (let x : After Arm = struckAuxiliary♯ m s base name xs in
-    ifMainStruck (rec (deeper base capacity) (p .right) (x .words)) (λ c n first ws. mainJoin♯ (renamed♯ name s first) (p .left) c (x .out) n 0 ws))
+    ifStruck (rec (deeper base capacity) (p .right) (x .words)) (λ c n first ws. mainJoin♯ (renamed♯ name s first) (p .left) c (x .out) n 0 ws))
     else struckAfresh♯ base s a xs)
 
-unfoldable pub mainStrikeRecord : MainStriking → ℕ → Mark → ℕ → ℕ → ℕ → Record → Arm → List ℕ → After MainStrike
+unfoldable pub mainStrikeRecord : MainStriking → ℕ → Mark → ℕ → ℕ → ℕ → Record → Arm → List ℕ → After Strike
 mainStrikeRecord rec capacity m s base name p a xs =
-    if not (eqb (p .left .weight + p .right .weight) (a .weight)) then after noMainStrike xs
+    if not (eqb (p .left .weight + p .right .weight) (a .weight)) then after noStrike xs
     else (if belowX m (slotMark xs name) then mainLeft rec capacity m s base name p a xs else mainRight rec capacity m s base name p a xs)
 
 unfoldable pub mainStrikeNode : MainStriking → ℕ → Mark → ℕ → MainStriking
 mainStrikeNode rec capacity m s base a xs = mainStrikeRecord rec capacity m s base (a .node / 2) (recordAt xs (mainPlace (a .node / 2))) a xs
 
 unfoldable pub strikeBeneath♯ : ℕ → ℕ → Mark → ℕ → MainStriking
-strikeBeneath♯ zero capacity m s base a xs = after noMainStrike xs
+strikeBeneath♯ zero capacity m s base a xs = after noStrike xs
 strikeBeneath♯ (suc f) capacity m s base a xs = mainStrikeNode (strikeBeneath♯ f capacity m s) capacity m s base a xs
 
-pub strikeBeneath♯-zero : (f : ℕ) → f ≡ 0 → (capacity : ℕ) (m : Mark) (s base : ℕ) (a : Arm) (xs : List ℕ) → strikeBeneath♯ f capacity m s base a xs ≡ after noMainStrike xs
+pub strikeBeneath♯-zero : (f : ℕ) → f ≡ 0 → (capacity : ℕ) (m : Mark) (s base : ℕ) (a : Arm) (xs : List ℕ) → strikeBeneath♯ f capacity m s base a xs ≡ after noStrike xs
 unfolding strikeBeneath♯
 strikeBeneath♯-zero f e capacity m s base a xs = rw e
 
@@ -102,7 +83,7 @@ strikeBeneath♯-suc zero h capacity m s base a xs = absurd (h refl)
 strikeBeneath♯-suc (suc f) h capacity m s base a xs = let e : suc f - 1 ≡ f = omega arith in rw e
 
 -- the arm left goes to the root
-unfoldable pub putStruck : After MainStrike → After ℕ
+unfoldable pub putStruck : After Strike → After ℕ
 putStruck p = if eqb (p .out .arm .weight) 0 then after damaged (p .words) else after (p .out .rebuilt) (putArm (p .words) rootPlace (p .out .arm))
 
 unfoldable pub strikeRoot : Mark → ℕ → ℕ → Arm → List ℕ → After ℕ

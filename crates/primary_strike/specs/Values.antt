@@ -1,7 +1,7 @@
 -- What the code's answers mean. Assumes nothing.
 use Rattle.table.specs.Values.{primaryArm}
-use Rattle.primary_strike.specs.Strike.{MainStrike, mainStrike}
+use Rattle.secondary_update.specs.Updates.{Strike, strike}
 use Rattle.primary_strike.specs.declared.strike.Struck.{Struck}
 
-abbrev pub mainStruckValue : Struck → MainStrike
-mainStruckValue u = mainStrike (primaryArm (u .arm)) (u .rebuilt) (u .first)
+abbrev pub mainStruckValue : Struck → Strike
+mainStruckValue u = strike (primaryArm (u .arm)) (u .rebuilt) (u .first)

@@ -3,7 +3,8 @@ ghost use mathlib.Core.Path.{_≡_};
 ghost use Rattle.geometry.specs.Values.{markValue};
 ghost use Rattle.table.specs.After.{after};
 ghost use Rattle.table.specs.Values.{primaryArm, secondaryArm};
-ghost use Rattle.primary_strike.specs.Strike.{mainStrikeOf, noMainStrike, lifted♯, struckAfresh♯, struckAuxiliary♯, mainJoin♯, strikeBeneath♯, mainStrike♯};
+ghost use Rattle.secondary_update.specs.Updates.{strikeOf, noStrike};
+ghost use Rattle.primary_strike.specs.Strike.{lifted♯, struckAfresh♯, struckAuxiliary♯, mainJoin♯, strikeBeneath♯, mainStrike♯};
 ghost use Rattle.primary_strike.specs.Values.{mainStruckValue};
 use crate::lift;
 use geometry::Mark;
@@ -28,7 +29,7 @@ pub struct Struck {
 }
 
 fn answer(arm: PrimaryArm, rebuilt: u32, first: u32) -> Struck
-    ensures { λ u. ⌜ mainStruckValue u ≡ mainStrikeOf (primaryArm arm) rebuilt first ⌝ }
+    ensures { λ u. ⌜ mainStruckValue u ≡ strikeOf (primaryArm arm) rebuilt first ⌝ }
 {
     Struck {
         arm,
@@ -38,7 +39,7 @@ fn answer(arm: PrimaryArm, rebuilt: u32, first: u32) -> Struck
 }
 
 fn damaged() -> Struck
-    ensures { λ u. ⌜ mainStruckValue u ≡ noMainStrike ⌝ }
+    ensures { λ u. ⌜ mainStruckValue u ≡ noStrike ⌝ }
 {
     let arm = PrimaryArm::none();
     Struck {

@@ -7,7 +7,8 @@ use Rattle.secondary_update.specs.Node.{balanced}
 use Rattle.secondary_update.specs.Insert.{damaged}
 use Rattle.twofold.specs.Levels.{deeper}
 use borrow.Author.Tests.{eq-eqb, ne-eqb}
-use Rattle.primary_strike.specs.Strike.{ifMainStruck, mainLeft, mainRight, mainStrikeNode, mainStrikeRecord, strikeBeneath♯-suc, strikeBeneath♯-zero}
+use Rattle.secondary_update.specs.Strike.{ifStruck}
+use Rattle.primary_strike.specs.Strike.{mainLeft, mainRight, mainStrikeNode, mainStrikeRecord, strikeBeneath♯-suc, strikeBeneath♯-zero}
 use borrow.Author.Needs.{needs}
 use Rattle.primary_strike.proofs.strike.strike_beneath.Reads as strike-beneath
 use Rattle.primary_strike.proofs.strike.strike_beneath.Kinds as strike-beneath-kinds
@@ -55,7 +56,7 @@ strike-beneath-damaged-requires t c κs = search needs
 
 -- src/strike.rt:112:9
 strike-beneath-returns : (t : ℕ) → strike-beneath-lts.Need-returns (said t) (strike-beneath-at t) strike-beneath.Post
-unfolding mainStrikeNode mainStrikeRecord mainLeft mainRight ifMainStruck
+unfolding mainStrikeNode mainStrikeRecord mainLeft mainRight ifStruck
 strike-beneath-returns t c = rw (strikeBeneath♯-zero _ (c .before .if1 .taken), ← c .damaged .ensures)
 
 -- src/strike.rt:115:9
@@ -80,7 +81,7 @@ strike-beneath-same-length t c = search needs
 
 -- src/strike.rt:120:9
 strike-beneath-returns-2 : (t : ℕ) → strike-beneath-lts.Need-returns-2 (said t) (strike-beneath-at t) strike-beneath.Post
-unfolding mainStrikeNode mainStrikeRecord mainLeft mainRight ifMainStruck
+unfolding mainStrikeNode mainStrikeRecord mainLeft mainRight ifStruck
 strike-beneath-returns-2 t c = rw (strikeBeneath♯-suc _ (c .before .before .before .before .before .before .before .before .before .if1 .left), ← c .before .before .before .before .before .before .before .slot .ensures, ← c .before .before .before .before .before .at .ensures, ← c .before .before .disagree .ensures, c .before .if2 .taken, ← c .damaged2 .ensures)
 
 -- src/strike.rt:122:9
@@ -105,7 +106,7 @@ strike-beneath-same-length-2 t c = search needs
 
 -- src/strike.rt:125:13
 strike-beneath-returns-3 : (t : ℕ) → strike-beneath-lts.Need-returns-3 (said t) (strike-beneath-at t) strike-beneath.Post
-unfolding mainStrikeNode mainStrikeRecord mainLeft mainRight ifMainStruck
+unfolding mainStrikeNode mainStrikeRecord mainLeft mainRight ifStruck
 strike-beneath-returns-3 t c = rw (strikeBeneath♯-suc _ (c .before .before .before .before .before .before .before .before .before .before .before .before .before .before .before .before .before .before .before .if1 .left), ← c .before .before .before .before .before .before .before .before .before .before .before .before .before .before .before .before .before .slot .ensures, ← c .before .before .before .before .before .before .before .before .before .before .before .before .before .before .before .at .ensures, ← c .before .before .before .before .before .before .before .before .before .before .before .before .disagree .ensures, c .before .before .before .before .before .before .before .before .before .before .before .if2 .left, ← c .before .before .before .before .before .before .before .before .before .before .deeper .ensures, ← c .before .before .before .before .before .before .before .before .mark-at .ensures, ← c .before .before .before .before .before .before .before .below-x .ensures, c .before .before .before .before .before .before .if3 .taken, eq-eqb _ _ (c .before .before .before .before .if4 .taken), ← c .before .before .lifted .ensures)
 
 -- src/strike.rt:127:30
@@ -138,7 +139,7 @@ strike-beneath-same-length-3 t c = search needs
 
 -- src/strike.rt:132:17
 strike-beneath-returns-4 : (t : ℕ) → strike-beneath-lts.Need-returns-4 (said t) (strike-beneath-at t) strike-beneath.Post
-unfolding mainStrikeNode mainStrikeRecord mainLeft mainRight ifMainStruck
+unfolding mainStrikeNode mainStrikeRecord mainLeft mainRight ifStruck
 strike-beneath-returns-4 t c = rw (strikeBeneath♯-suc _ (c .before .before .before .before .before .before .before .before .before .before .before .before .before .before .before .before .before .before .before .before .before .before .before .before .before .before .before .before .before .before .if1 .left), ← c .before .before .before .before .before .before .before .before .before .before .before .before .before .before .before .before .before .before .before .before .before .before .before .before .before .before .before .before .slot .ensures, ← c .before .before .before .before .before .before .before .before .before .before .before .before .before .before .before .before .before .before .before .before .before .before .before .before .before .before .at .ensures, ← c .before .before .before .before .before .before .before .before .before .before .before .before .before .before .before .before .before .before .before .before .before .before .before .disagree .ensures, c .before .before .before .before .before .before .before .before .before .before .before .before .before .before .before .before .before .before .before .before .before .before .if2 .left, ← c .before .before .before .before .before .before .before .before .before .before .before .before .before .before .before .before .before .before .before .before .before .deeper .ensures, ← c .before .before .before .before .before .before .before .before .before .before .before .before .before .before .before .before .before .before .before .mark-at .ensures, ← c .before .before .before .before .before .before .before .before .before .before .before .before .before .before .before .before .before .before .below-x .ensures, c .before .before .before .before .before .before .before .before .before .before .before .before .before .before .before .before .before .if3 .taken, ne-eqb _ _ (c .before .before .before .before .before .before .before .before .before .before .before .before .before .before .before .if4 .left), ← c .before .before .before .before .before .before .before .before .before .before .before .before .before .before .fewer .ensures, ← c .before .before .before .before .before .before .before .before .before .before .before .before .before .balanced .ensures, c .before .before .before .before .before .before .before .before .before .before .before .before .if5 .taken, ← c .before .before .before .before .before .before .before .before .before .before .strike-auxiliary .ensures, ← c .before .before .before .before .before .before .strike-beneath .ensures, eq-eqb _ _ (c .before .if6 .taken), ← c .damaged3 .ensures)
 
 -- src/strike.rt:134:13
@@ -151,7 +152,7 @@ strike-beneath-same-length-4 t c = search needs
 
 -- src/strike.rt:134:13
 strike-beneath-returns-5 : (t : ℕ) → strike-beneath-lts.Need-returns-5 (said t) (strike-beneath-at t) strike-beneath.Post
-unfolding mainStrikeNode mainStrikeRecord mainLeft mainRight ifMainStruck
+unfolding mainStrikeNode mainStrikeRecord mainLeft mainRight ifStruck
 strike-beneath-returns-5 t c = rw (strikeBeneath♯-suc _ (c .before .before .before .before .before .before .before .before .before .before .before .before .before .before .before .before .before .before .before .before .before .before .before .before .before .before .before .before .before .before .before .before .before .if1 .left), ← c .before .before .before .before .before .before .before .before .before .before .before .before .before .before .before .before .before .before .before .before .before .before .before .before .before .before .before .before .before .before .before .slot .ensures, ← c .before .before .before .before .before .before .before .before .before .before .before .before .before .before .before .before .before .before .before .before .before .before .before .before .before .before .before .before .before .at .ensures, ← c .before .before .before .before .before .before .before .before .before .before .before .before .before .before .before .before .before .before .before .before .before .before .before .before .before .before .disagree .ensures, c .before .before .before .before .before .before .before .before .before .before .before .before .before .before .before .before .before .before .before .before .before .before .before .before .before .if2 .left, ← c .before .before .before .before .before .before .before .before .before .before .before .before .before .before .before .before .before .before .before .before .before .before .before .before .deeper .ensures, ← c .before .before .before .before .before .before .before .before .before .before .before .before .before .before .before .before .before .before .before .before .before .before .mark-at .ensures, ← c .before .before .before .before .before .before .before .before .before .before .before .before .before .before .before .before .before .before .before .before .before .below-x .ensures, c .before .before .before .before .before .before .before .before .before .before .before .before .before .before .before .before .before .before .before .before .if3 .taken, ne-eqb _ _ (c .before .before .before .before .before .before .before .before .before .before .before .before .before .before .before .before .before .before .if4 .left), ← c .before .before .before .before .before .before .before .before .before .before .before .before .before .before .before .before .before .fewer .ensures, ← c .before .before .before .before .before .before .before .before .before .before .before .before .before .before .before .before .balanced .ensures, c .before .before .before .before .before .before .before .before .before .before .before .before .before .before .before .if5 .taken, ← c .before .before .before .before .before .before .before .before .before .before .before .before .before .strike-auxiliary .ensures, ← c .before .before .before .before .before .before .before .before .before .strike-beneath .ensures, ne-eqb _ _ (c .before .before .before .before .if6 .left), ← c .before .before .join .ensures)
 
 -- src/strike.rt:136:9
@@ -164,7 +165,7 @@ strike-beneath-same-length-5 t c = search needs
 
 -- src/strike.rt:136:9
 strike-beneath-returns-6 : (t : ℕ) → strike-beneath-lts.Need-returns-6 (said t) (strike-beneath-at t) strike-beneath.Post
-unfolding mainStrikeNode mainStrikeRecord mainLeft mainRight ifMainStruck
+unfolding mainStrikeNode mainStrikeRecord mainLeft mainRight ifStruck
 strike-beneath-returns-6 t c = rw (strikeBeneath♯-suc _ (c .before .before .before .before .before .before .before .before .before .before .before .before .before .before .before .before .before .before .before .before .before .before .if1 .left), ← c .before .before .before .before .before .before .before .before .before .before .before .before .before .before .before .before .before .before .before .before .slot .ensures, ← c .before .before .before .before .before .before .before .before .before .before .before .before .before .before .before .before .before .before .at .ensures, ← c .before .before .before .before .before .before .before .before .before .before .before .before .before .before .before .disagree .ensures, c .before .before .before .before .before .before .before .before .before .before .before .before .before .before .if2 .left, ← c .before .before .before .before .before .before .before .before .before .before .before .before .before .deeper .ensures, ← c .before .before .before .before .before .before .before .before .before .before .before .mark-at .ensures, ← c .before .before .before .before .before .before .before .before .before .before .below-x .ensures, c .before .before .before .before .before .before .before .before .before .if3 .taken, ne-eqb _ _ (c .before .before .before .before .before .before .before .if4 .left), ← c .before .before .before .before .before .before .fewer .ensures, ← c .before .before .before .before .before .balanced .ensures, c .before .before .before .before .if5 .left, ← c .before .before .strike-afresh .ensures)
 
 -- src/strike.rt:139:9
@@ -177,7 +178,7 @@ strike-beneath-same-length-6 t c = search needs
 
 -- src/strike.rt:139:9
 strike-beneath-returns-7 : (t : ℕ) → strike-beneath-lts.Need-returns-7 (said t) (strike-beneath-at t) strike-beneath.Post
-unfolding mainStrikeNode mainStrikeRecord mainLeft mainRight ifMainStruck
+unfolding mainStrikeNode mainStrikeRecord mainLeft mainRight ifStruck
 strike-beneath-returns-7 t c = rw (strikeBeneath♯-suc _ (c .before .before .before .before .before .before .before .before .before .before .before .before .before .before .before .before .before .before .before .if1 .left), ← c .before .before .before .before .before .before .before .before .before .before .before .before .before .before .before .before .before .slot .ensures, ← c .before .before .before .before .before .before .before .before .before .before .before .before .before .before .before .at .ensures, ← c .before .before .before .before .before .before .before .before .before .before .before .before .disagree .ensures, c .before .before .before .before .before .before .before .before .before .before .before .if2 .left, ← c .before .before .before .before .before .before .before .before .before .before .deeper .ensures, ← c .before .before .before .before .before .before .before .before .mark-at .ensures, ← c .before .before .before .before .before .before .before .below-x .ensures, c .before .before .before .before .before .before .if3 .left, eq-eqb _ _ (c .before .before .before .before .if7 .taken), ← c .before .before .lifted2 .ensures)
 
 -- src/strike.rt:141:36
@@ -210,7 +211,7 @@ strike-beneath-same-length-7 t c = search needs
 
 -- src/strike.rt:146:13
 strike-beneath-returns-8 : (t : ℕ) → strike-beneath-lts.Need-returns-8 (said t) (strike-beneath-at t) strike-beneath.Post
-unfolding mainStrikeNode mainStrikeRecord mainLeft mainRight ifMainStruck
+unfolding mainStrikeNode mainStrikeRecord mainLeft mainRight ifStruck
 strike-beneath-returns-8 t c = rw (strikeBeneath♯-suc _ (c .before .before .before .before .before .before .before .before .before .before .before .before .before .before .before .before .before .before .before .before .before .before .before .before .before .before .before .before .before .before .if1 .left), ← c .before .before .before .before .before .before .before .before .before .before .before .before .before .before .before .before .before .before .before .before .before .before .before .before .before .before .before .before .slot .ensures, ← c .before .before .before .before .before .before .before .before .before .before .before .before .before .before .before .before .before .before .before .before .before .before .before .before .before .before .at .ensures, ← c .before .before .before .before .before .before .before .before .before .before .before .before .before .before .before .before .before .before .before .before .before .before .before .disagree .ensures, c .before .before .before .before .before .before .before .before .before .before .before .before .before .before .before .before .before .before .before .before .before .before .if2 .left, ← c .before .before .before .before .before .before .before .before .before .before .before .before .before .before .before .before .before .before .before .before .before .deeper .ensures, ← c .before .before .before .before .before .before .before .before .before .before .before .before .before .before .before .before .before .before .before .mark-at .ensures, ← c .before .before .before .before .before .before .before .before .before .before .before .before .before .before .before .before .before .before .below-x .ensures, c .before .before .before .before .before .before .before .before .before .before .before .before .before .before .before .before .before .if3 .left, ne-eqb _ _ (c .before .before .before .before .before .before .before .before .before .before .before .before .before .before .before .if7 .left), ← c .before .before .before .before .before .before .before .before .before .before .before .before .before .before .fewer2 .ensures, ← c .before .before .before .before .before .before .before .before .before .before .before .before .before .balanced2 .ensures, c .before .before .before .before .before .before .before .before .before .before .before .before .if8 .taken, ← c .before .before .before .before .before .before .before .before .before .before .strike-auxiliary2 .ensures, ← c .before .before .before .before .before .before .strike-beneath2 .ensures, eq-eqb _ _ (c .before .if9 .taken), ← c .damaged4 .ensures)
 
 -- src/strike.rt:148:24
@@ -227,7 +228,7 @@ strike-beneath-same-length-8 t c = search needs
 
 -- src/strike.rt:148:9
 strike-beneath-returns-9 : (t : ℕ) → strike-beneath-lts.Need-returns-9 (said t) (strike-beneath-at t) strike-beneath.Post
-unfolding mainStrikeNode mainStrikeRecord mainLeft mainRight ifMainStruck
+unfolding mainStrikeNode mainStrikeRecord mainLeft mainRight ifStruck
 strike-beneath-returns-9 t c = rw (strikeBeneath♯-suc _ (c .before .before .before .before .before .before .before .before .before .before .before .before .before .before .before .before .before .before .before .before .before .before .before .before .before .before .before .before .before .before .before .before .before .before .if1 .left), ← c .before .before .before .before .before .before .before .before .before .before .before .before .before .before .before .before .before .before .before .before .before .before .before .before .before .before .before .before .before .before .before .before .slot .ensures, ← c .before .before .before .before .before .before .before .before .before .before .before .before .before .before .before .before .before .before .before .before .before .before .before .before .before .before .before .before .before .before .at .ensures, ← c .before .before .before .before .before .before .before .before .before .before .before .before .before .before .before .before .before .before .before .before .before .before .before .before .before .before .before .disagree .ensures, c .before .before .before .before .before .before .before .before .before .before .before .before .before .before .before .before .before .before .before .before .before .before .before .before .before .before .if2 .left, ← c .before .before .before .before .before .before .before .before .before .before .before .before .before .before .before .before .before .before .before .before .before .before .before .before .before .deeper .ensures, ← c .before .before .before .before .before .before .before .before .before .before .before .before .before .before .before .before .before .before .before .before .before .before .before .mark-at .ensures, ← c .before .before .before .before .before .before .before .before .before .before .before .before .before .before .before .before .before .before .before .before .before .before .below-x .ensures, c .before .before .before .before .before .before .before .before .before .before .before .before .before .before .before .before .before .before .before .before .before .if3 .left, ne-eqb _ _ (c .before .before .before .before .before .before .before .before .before .before .before .before .before .before .before .before .before .before .before .if7 .left), ← c .before .before .before .before .before .before .before .before .before .before .before .before .before .before .before .before .before .before .fewer2 .ensures, ← c .before .before .before .before .before .before .before .before .before .before .before .before .before .before .before .before .before .balanced2 .ensures, c .before .before .before .before .before .before .before .before .before .before .before .before .before .before .before .before .if8 .taken, ← c .before .before .before .before .before .before .before .before .before .before .before .before .before .before .strike-auxiliary2 .ensures, ← c .before .before .before .before .before .before .before .before .before .before .strike-beneath2 .ensures, ne-eqb _ _ (c .before .before .before .before .before .if9 .left), ← c .before .before .before .renamed .ensures, ← c .before .before .join2 .ensures)
 
 -- src/strike.rt:150:5
@@ -240,7 +241,7 @@ strike-beneath-same-length-9 t c = search needs
 
 -- src/strike.rt:100:1
 strike-beneath-returns-10 : (t : ℕ) → strike-beneath-lts.Need-returns-10 (said t) (strike-beneath-at t) strike-beneath.Post
-unfolding mainStrikeNode mainStrikeRecord mainLeft mainRight ifMainStruck
+unfolding mainStrikeNode mainStrikeRecord mainLeft mainRight ifStruck
 strike-beneath-returns-10 t c = rw (strikeBeneath♯-suc _ (c .before .before .before .before .before .before .before .before .before .before .before .before .before .before .before .before .before .before .before .before .before .before .if1 .left), ← c .before .before .before .before .before .before .before .before .before .before .before .before .before .before .before .before .before .before .before .before .slot .ensures, ← c .before .before .before .before .before .before .before .before .before .before .before .before .before .before .before .before .before .before .at .ensures, ← c .before .before .before .before .before .before .before .before .before .before .before .before .before .before .before .disagree .ensures, c .before .before .before .before .before .before .before .before .before .before .before .before .before .before .if2 .left, ← c .before .before .before .before .before .before .before .before .before .before .before .before .before .deeper .ensures, ← c .before .before .before .before .before .before .before .before .before .before .before .mark-at .ensures, ← c .before .before .before .before .before .before .before .before .before .before .below-x .ensures, c .before .before .before .before .before .before .before .before .before .if3 .left, ne-eqb _ _ (c .before .before .before .before .before .before .before .if7 .left), ← c .before .before .before .before .before .before .fewer2 .ensures, ← c .before .before .before .before .before .balanced2 .ensures, c .before .before .before .before .if8 .left, ← c .before .before .strike-afresh2 .ensures)
 
 pub +strike-beneath-spec : {M : Type 1} → statement M

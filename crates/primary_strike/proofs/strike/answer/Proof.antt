@@ -1,5 +1,5 @@
 use Rattle.primary_strike.proofs.strike.answer.Statement.{statement}
-use Rattle.primary_strike.specs.Strike.{mainStrikeOf}
+use Rattle.secondary_update.specs.Updates.{strikeOf}
 use borrow.Author.Needs.{needs}
 use Rattle.primary_strike.proofs.strike.answer.Tie as tie
 use Rattle.primary_strike.proofs.strike.answer.Reads as reads
@@ -7,7 +7,7 @@ use Rattle.primary_strike.proofs.strike.answer.Lts as lts
 
 -- src/strike.rt:31:1
 returns : tie.Need-returns
-unfolding mainStrikeOf
+unfolding strikeOf
 returns c = search needs
 
 pub answer-spec : {M : Type 1} → statement M
