@@ -16,8 +16,8 @@ use Rattle.model.specs.Sizes.{D, W, capacityOutside}
 use Rattle.model.specs.Laws.{nil}
 use Rattle.model.proofs.Logic.{by-cases}
 use Rattle.table.specs.Layout.{openPlace, capacityPlace, livePlace, rootPlace, usedPlace, placePlace}
-use Rattle.table.specs.Arms.{Arm, noArm, armAt, putArm}
-use Rattle.table.proofs.Spots.{arm-same, putArm-length, putArm-other, putArm-same}
+use Rattle.nodes.specs.Arms.{Arm, noArm, armAt, putArm}
+use Rattle.nodes.proofs.Spots.{arm-same, putArm-length, putArm-other, putArm-same}
 use Rattle.primary.specs.Sound.{capacityOf, liveOf, EachOnce, Holding}
 use Rattle.primary.specs.Empty.{ownPlace, freeSlots♯, empty♯}
 use Rattle.primary.proofs.Slots.{each-once-by}

@@ -24,13 +24,14 @@ use Rattle.model.proofs.Tree.{weight-marks, rebalance-marks, insert-marks}
 use Rattle.model.proofs.TwoFold.{main-insert-marks}
 use Rattle.table.specs.Layout.{openPlace, capacityPlace, livePlace, slotPlace, mainPlace, auxiliaryPlace, rootPlace, levelPlace, recordPlace}
 use Rattle.table.specs.Marks.{markAt, slotMark, putMark}
-use Rattle.table.specs.Arms.{sum, armAt}
-use Rattle.table.specs.Holds.{armOf, timesIn, times}
+use Rattle.nodes.specs.Arms.{armAt}
+use Rattle.table.specs.Weights.{sum}
+use Rattle.nodes.specs.Holds.{armOf, timesIn, times}
 use Rattle.table.specs.After.{After}
-use Rattle.table.proofs.Frames.{sets-other, sets-at, record-same, slotMark-same}
-use Rattle.table.proofs.Spots.{arm-same}
-use Rattle.table.proofs.Held.{times-node, times-least, held-same, Names}
-use Rattle.table.proofs.Levels.{table-main}
+use Rattle.nodes.proofs.Frames.{sets-other, sets-at, record-same, slotMark-same}
+use Rattle.nodes.proofs.Spots.{arm-same}
+use Rattle.nodes.proofs.Held.{times-node, times-least, held-same, Names}
+use Rattle.nodes.proofs.Levels.{table-main}
 use Rattle.twofold.specs.Rules.{SlotAuxiliary, SlotMain, slotAuxiliary, slotMain, AuxiliariesOf, ByRules, marksMain}
 use Rattle.twofold.specs.TwoFold.{HoldsAuxiliary, HoldsAuxiliaries, TwoFold}
 use Rattle.twofold.proofs.Frames.{root-spot}

@@ -25,10 +25,10 @@ use Rattle.model.proofs.Sorted.{filterBy-sorted, sort-sorted, sorted-distinct, 
 use Rattle.model.proofs.Tree.{weight-marks}
 use Rattle.model.proofs.TwoFold.{Agrees, open-agrees, count-agrees, count-visits, list-agrees, list-visits}
 use Rattle.table.specs.Marks.{slotMark}
-use Rattle.table.specs.Holds.{timesIn}
+use Rattle.nodes.specs.Holds.{timesIn}
 use Rattle.table.specs.Tally.{mostVisits, pack}
 use Rattle.table.specs.After.{after}
-use Rattle.table.proofs.Levels.{most-levels, held-shallow}
+use Rattle.nodes.proofs.Levels.{most-levels, held-shallow}
 use Rattle.twofold.specs.Rules.{SlotMain, slotMain, marksMain}
 use Rattle.twofold.proofs.Stands.{stands-marks, stands-count, stands-list}
 use Rattle.twofold.proofs.Agrees.{countIf-map, sameBag-map, rules-agrees}

@@ -20,11 +20,11 @@ use Rattle.model.proofs.Tree.{weight-marks}
 use Rattle.table.specs.Layout.{capacityPlace, livePlace, rootPlace, slotPlace, mainPlace, auxiliaryPlace, usedPlace, placePlace, runPlace, levelPlace}
 use Rattle.table.specs.Layout.{recordPlace}
 use Rattle.table.specs.Marks.{slotMark}
-use Rattle.table.specs.Arms.{armAt, recordAt}
-use Rattle.table.specs.Holds.{timesIn, times, Held}
-use Rattle.table.proofs.Frames.{record-same, slotMark-same}
-use Rattle.table.proofs.Held.{times-node, times-least, held-weight, held-same}
-use Rattle.table.proofs.Spots.{arm-same}
+use Rattle.nodes.specs.Arms.{armAt, recordAt}
+use Rattle.nodes.specs.Holds.{timesIn, times, Held}
+use Rattle.nodes.proofs.Frames.{record-same, slotMark-same}
+use Rattle.nodes.proofs.Held.{times-node, times-least, held-weight, held-same}
+use Rattle.nodes.proofs.Spots.{arm-same}
 use Rattle.twofold.specs.Rules.{SlotAuxiliary, SlotMain, marksMain}
 use Rattle.twofold.specs.TwoFold.{HoldsAuxiliary, HoldsAuxiliaries, TwoFold}
 use Rattle.twofold.proofs.Marks.{SameOn, armOf-marks, held-marks, rules-marks, marksMain-marks}

@@ -21,10 +21,10 @@ use Rattle.model.proofs.Tree.{rebalance-marks}
 use Rattle.model.proofs.TwoFold.{main-strike-marks}
 use Rattle.table.specs.Layout.{openPlace, livePlace, rootPlace, usedPlace, runPlace}
 use Rattle.table.specs.Marks.{slotMark}
-use Rattle.table.specs.Holds.{timesIn, times}
+use Rattle.nodes.specs.Holds.{timesIn, times}
 use Rattle.table.specs.After.{After, after}
-use Rattle.table.proofs.Held.{Names}
-use Rattle.table.proofs.Levels.{table-main}
+use Rattle.nodes.proofs.Held.{Names}
+use Rattle.nodes.proofs.Levels.{table-main}
 use Rattle.twofold.specs.Rules.{SlotAuxiliary, SlotMain, slotAuxiliary, slotMain, ByRules, marksMain}
 use Rattle.twofold.proofs.Frames.{TwoFrame}
 use Rattle.twofold.proofs.Kept.{kept-header, kept-capacity, kept-lists}

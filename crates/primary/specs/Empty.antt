@@ -5,7 +5,7 @@ use mathlib.Core.List.{List}
 use native.Mathlib.Omega.{arith}
 use lib.ListN.{set}
 use Rattle.table.specs.Layout.{openPlace, capacityPlace, livePlace, rootPlace, usedPlace, placePlace}
-use Rattle.table.specs.Arms.{noArm, putArm}
+use Rattle.nodes.specs.Arms.{noArm, putArm}
 
 unfoldable pub ownPlace : ℕ → ℕ → List ℕ → List ℕ
 ownPlace capacity s xs = set (set xs (usedPlace capacity s) s) (placePlace capacity s) s

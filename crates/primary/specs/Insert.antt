@@ -7,7 +7,7 @@ use Rattle.model.specs.Lists.{if_then_else_}
 use Rattle.model.specs.Sheet.{Mark}
 use Rattle.table.specs.Layout.{capacityPlace, livePlace, slotPlace, usedPlace}
 use Rattle.table.specs.Marks.{putMark}
-use Rattle.table.specs.Arms.{sum}
+use Rattle.table.specs.Weights.{sum}
 use Rattle.table.specs.After.{After, after}
 use Rattle.secondary_update.specs.Insert.{damaged}
 use Rattle.primary_insert.specs.Insert.{mainInsert♯}

@@ -15,8 +15,8 @@ use Rattle.model.specs.Sheet.{Main, markOutside, alongX}
 use Rattle.model.specs.Laws.{All}
 use Rattle.table.specs.Layout.{openPlace, capacityPlace, livePlace, rootPlace, usedPlace, placePlace}
 use Rattle.table.specs.Marks.{slotMark}
-use Rattle.table.specs.Arms.{armAt}
-use Rattle.table.specs.Holds.{armOf, timesIn}
+use Rattle.nodes.specs.Arms.{armAt}
+use Rattle.nodes.specs.Holds.{armOf, timesIn}
 use Rattle.twofold.specs.Rules.{SlotMain, ByRules, marksMain}
 use Rattle.twofold.specs.TwoFold.{TwoFold}
 

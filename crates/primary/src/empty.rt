@@ -1,8 +1,8 @@
 // Emptying a table.
 ghost use mathlib.Core.Path.{_≡_};
 ghost use Rattle.primary.specs.Empty.{freeSlots♯, empty♯};
+use nodes::primary::PrimaryArm;
 use table::header;
-use table::primary::PrimaryArm;
 use table::runs;
 
 // Every slot is free, and stands at its own place in `used`.

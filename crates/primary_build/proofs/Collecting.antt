@@ -17,10 +17,10 @@ use Rattle.model.proofs.Logic.{by-cases}
 use Rattle.model.proofs.Sorted.{filterBy-sorted}
 use Rattle.model.proofs.Tree.{weight-pos, weight-marks}
 use Rattle.table.specs.Layout.{mainPlace, runPlace}
-use Rattle.table.specs.Holds.{number, timesIn, Held}
+use Rattle.nodes.specs.Holds.{number, timesIn, Held}
 use Rattle.table.specs.After.{after}
-use Rattle.table.proofs.Frames.{sets-append, Region}
-use Rattle.table.proofs.Held.{held-left, held-right, held-frame}
+use Rattle.nodes.proofs.Frames.{sets-append, Region}
+use Rattle.nodes.proofs.Held.{held-left, held-right, held-frame}
 use Rattle.secondary_build.proofs.Collecting.{run-frame}
 use Rattle.primary_build.specs.Collect.{collectBoth, collectLeaf, collectAt, collectBut♯}
 

@@ -2,8 +2,8 @@
 ghost use mathlib.Core.Path.{_≡_};
 ghost use Rattle.table.specs.After.{after};
 ghost use Rattle.primary_build.specs.Collect.{collectBut♯};
-use table::primary::Primary;
-use table::primary::PrimaryRecord;
+use nodes::primary::Primary;
+use nodes::primary::PrimaryRecord;
 use table::runs;
 
 // More slots than any run has.

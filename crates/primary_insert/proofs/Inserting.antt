@@ -27,13 +27,14 @@ use Rattle.model.proofs.Tree.{weight-pos, weight-marks, marks-pos, build-marks,
 use Rattle.model.proofs.Rebalance.{rebalance-left, rebalance-right, rebuilt-left, rebuilt-right}
 use Rattle.table.specs.Layout.{capacityPlace, mainPlace, auxiliaryPlace, rootPlace, runPlace, levelPlace, recordPlace, deepest}
 use Rattle.table.specs.Marks.{slotMark}
-use Rattle.table.specs.Arms.{Arm, arms, grownArm, sum, armAt, putArm}
-use Rattle.table.specs.Holds.{armOf, timesIn, times, Held}
+use Rattle.nodes.specs.Arms.{Arm, arms, grownArm, armAt, putArm}
+use Rattle.table.specs.Weights.{sum}
+use Rattle.nodes.specs.Holds.{armOf, timesIn, times, Held}
 use Rattle.table.specs.After.{After, after}
-use Rattle.table.proofs.Frames.{Region}
-use Rattle.table.proofs.Held.{times-node, times-least, held-weight, leafArm-of, Names, least-marks, greatest-marks, names-marks, names-own, held-same}
-use Rattle.table.proofs.Spots.{FrameAt, record-arms, putArm-length, putArm-same, frameAt-trans, putArm-frame, Spot, LeavesAt}
-use Rattle.table.proofs.Levels.{most-levels, held-shallow}
+use Rattle.nodes.proofs.Frames.{Region}
+use Rattle.nodes.proofs.Held.{times-node, times-least, held-weight, leafArm-of, Names, least-marks, greatest-marks, names-marks, names-own, held-same}
+use Rattle.nodes.proofs.Spots.{FrameAt, record-arms, putArm-length, putArm-same, frameAt-trans, putArm-frame, Spot, LeavesAt}
+use Rattle.nodes.proofs.Levels.{most-levels, held-shallow}
 use Rattle.twofold.specs.Rules.{SlotAuxiliary, SlotMain, slotAuxiliary, AuxiliaryOf, ByRules}
 use Rattle.twofold.specs.TwoFold.{HoldsAuxiliary, TwoFold}
 use Rattle.twofold.proofs.Frames.{TwoFrame, TwoSpot, twoFrame-trans, twoFrame-weaken, twoFrame-at, main-frameAt, level-frameAt, arm-twoFrame, twoSpot-weaken, root-spot, child-spot}

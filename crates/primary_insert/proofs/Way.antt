@@ -18,11 +18,11 @@ use Rattle.model.specs.Laws.{SameBag, Sorted}
 use Rattle.model.proofs.Logic.{by-order}
 use Rattle.table.specs.Layout.{capacityPlace, mainPlace, auxiliaryPlace, runPlace, levelPlace, recordPlace, deepest}
 use Rattle.table.specs.Marks.{slotMark}
-use Rattle.table.specs.Arms.{Arm, arms, armAt, putArm}
-use Rattle.table.specs.Holds.{armOf, timesIn, times, Held}
+use Rattle.nodes.specs.Arms.{Arm, arms, armAt, putArm}
+use Rattle.nodes.specs.Holds.{armOf, timesIn, times, Held}
 use Rattle.table.specs.After.{After}
-use Rattle.table.proofs.Held.{times-node, times-least, held-least, Names, names-left, names-right, names-own}
-use Rattle.table.proofs.Spots.{FrameAt, record-arms, putArm-same, frameAt-weaken}
+use Rattle.nodes.proofs.Held.{times-node, times-least, held-least, Names, names-left, names-right, names-own}
+use Rattle.nodes.proofs.Spots.{FrameAt, record-arms, putArm-same, frameAt-weaken}
 use Rattle.twofold.specs.Rules.{SlotAuxiliary, SlotMain, slotAuxiliary, AuxiliaryOf, AuxiliariesOf}
 use Rattle.twofold.specs.TwoFold.{HoldsAuxiliary, TwoFold}
 use Rattle.twofold.proofs.Frames.{TwoFrame, TwoSpot, twoFrame-trans, twoFrame-weaken, twoFrame-at, twoFrame-inner, arm-twoFrame, twoSpot-weaken, child-spot}

@@ -10,7 +10,7 @@ use Rattle.model.specs.Lists.{if_then_else_}
 use Rattle.model.specs.Sheet.{Mark, belowX, alongX, alongY}
 use Rattle.table.specs.Layout.{capacityPlace, mainPlace, auxiliaryPlace, rootPlace, recordPlace, deepest}
 use Rattle.table.specs.Marks.{slotMark}
-use Rattle.table.specs.Arms.{Arm, Record, leafArm, grownArm, armAt, putArm, recordAt}
+use Rattle.nodes.specs.Arms.{Arm, Record, leafArm, grownArm, armAt, putArm, recordAt}
 use Rattle.table.specs.After.{After, after}
 use Rattle.twofold.specs.Levels.{topLevel, deeper}
 use Rattle.secondary_update.specs.Insert.{damaged, unsteady♯, childPlace, split♯, insert♯}

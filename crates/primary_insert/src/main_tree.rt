@@ -6,12 +6,12 @@ ghost use Rattle.model.specs.Sheet.{alongX};
 ghost use Rattle.geometry.specs.Values.{markValue};
 ghost use Rattle.table.specs.After.{after};
 ghost use Rattle.table.specs.Layout.{mainPlace};
-ghost use Rattle.table.specs.Values.{primaryArm};
+ghost use Rattle.nodes.specs.Values.{primaryArm};
 ghost use Rattle.secondary_update.specs.Insert.{childPlace, split♯, insert♯};
 ghost use Rattle.primary_insert.specs.Insert.{splitName};
 use geometry::Mark;
-use table::primary::PrimaryArm;
-use table::primary::PrimaryRecord;
+use nodes::primary::PrimaryArm;
+use nodes::primary::PrimaryRecord;
 use table::slots;
 use table::weights;
 

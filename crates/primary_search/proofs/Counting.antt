@@ -22,11 +22,11 @@ use Rattle.model.proofs.Search.{arrive-cases}
 use Rattle.model.proofs.Tree.{weight-pos, weight-marks}
 use Rattle.table.specs.Layout.{capacityPlace, mainPlace, rootPlace, levelPlace}
 use Rattle.table.specs.Marks.{slotMark}
-use Rattle.table.specs.Arms.{Arm, Record, arms, armAt, recordAt}
-use Rattle.table.specs.Holds.{armOf}
+use Rattle.nodes.specs.Arms.{Arm, Record, arms, armAt, recordAt}
+use Rattle.nodes.specs.Holds.{armOf}
 use Rattle.table.specs.Tally.{mostVisits, pack}
-use Rattle.table.proofs.Held.{held-weight}
-use Rattle.table.proofs.Levels.{held-shallow}
+use Rattle.nodes.proofs.Held.{held-weight}
+use Rattle.nodes.proofs.Levels.{held-shallow}
 use Rattle.table.proofs.Tallies.{visited-pack, pack-visits}
 use Rattle.twofold.specs.Levels.{deeper}
 use Rattle.twofold.specs.Rules.{SlotAuxiliary, SlotMain, slotAuxiliary, slotMain, ByRules}

@@ -20,9 +20,9 @@ use Rattle.model.proofs.Slots.{slotSpace-sameness, slotAxis-laws}
 use Rattle.model.proofs.Tree.{weight-pos, all-above, left-all-below}
 use Rattle.table.specs.Layout.{mainPlace, rootPlace}
 use Rattle.table.specs.Marks.{slotMark}
-use Rattle.table.specs.Arms.{Arm, arms, armAt, recordAt}
-use Rattle.table.specs.Holds.{number, armOf, times, Held}
-use Rattle.table.proofs.Held.{times-node, times-least, held-left, held-right}
+use Rattle.nodes.specs.Arms.{Arm, arms, armAt, recordAt}
+use Rattle.nodes.specs.Holds.{number, armOf, times, Held}
+use Rattle.nodes.proofs.Held.{times-node, times-least, held-left, held-right}
 use Rattle.twofold.specs.Rules.{SlotAuxiliary, SlotMain}
 use Rattle.primary_search.specs.Find.{absent, findLeaf, findNode, findBeneath♯, findRoot, find♯}
 

@@ -22,11 +22,11 @@ use Rattle.model.proofs.Lists.{countIf-append}
 use Rattle.model.proofs.Tree.{weight-pos}
 use Rattle.table.specs.Layout.{capacityPlace, rootPlace, levelPlace, listPlace}
 use Rattle.table.specs.Marks.{slotMark, putMark}
-use Rattle.table.specs.Arms.{armAt}
-use Rattle.table.specs.Holds.{armOf}
+use Rattle.nodes.specs.Arms.{armAt}
+use Rattle.nodes.specs.Holds.{armOf}
 use Rattle.table.specs.Tally.{pack}
 use Rattle.table.specs.After.{After, after}
-use Rattle.table.proofs.Levels.{held-shallow}
+use Rattle.nodes.proofs.Levels.{held-shallow}
 use Rattle.table.proofs.Tallies.{visited-pack, pack-visits, pack-found}
 use Rattle.twofold.specs.Rules.{SlotAuxiliary, SlotMain, slotAuxiliary, slotMain, AuxiliaryOf, AuxiliariesOf, ByRules}
 use Rattle.twofold.specs.TwoFold.{TwoFold}

@@ -19,10 +19,10 @@ use Rattle.model.proofs.Orders.{alongX-laws}
 use Rattle.model.proofs.Slots.{slotAxis-laws}
 use Rattle.table.specs.Layout.{mainPlace, auxiliaryPlace, levelPlace, recordPlace}
 use Rattle.table.specs.Marks.{slotMark}
-use Rattle.table.specs.Arms.{arms, armAt, recordAt}
-use Rattle.table.specs.Holds.{armOf, Holds, timesIn, CarriesBag}
-use Rattle.table.proofs.Held.{held-left, held-right}
-use Rattle.table.proofs.Levels.{held-shallow}
+use Rattle.nodes.specs.Arms.{arms, armAt, recordAt}
+use Rattle.nodes.specs.Holds.{armOf, Holds, timesIn, CarriesBag}
+use Rattle.nodes.proofs.Held.{held-left, held-right}
+use Rattle.nodes.proofs.Levels.{held-shallow}
 use Rattle.twofold.specs.Rules.{SlotAuxiliary, SlotMain, AuxiliaryOf, ByRules}
 use Rattle.twofold.specs.TwoFold.{HoldsAuxiliary, TwoFold}
 use Rattle.secondary_search.proofs.Counting.{Settled}

@@ -11,7 +11,7 @@ use Rattle.model.specs.Axis.{cellInside, cellClear}
 use Rattle.model.specs.Sheet.{Box, alongX, holds}
 use Rattle.table.specs.Layout.{capacityPlace, mainPlace, auxiliaryPlace, rootPlace, deepest}
 use Rattle.table.specs.Marks.{slotMark}
-use Rattle.table.specs.Arms.{Arm, Record, armAt, recordAt}
+use Rattle.nodes.specs.Arms.{Arm, Record, armAt, recordAt}
 use Rattle.table.specs.Tally.{visited, lost, mostVisits}
 use Rattle.twofold.specs.Levels.{topLevel, deeper}
 use Rattle.secondary_search.specs.Count.{count♯}

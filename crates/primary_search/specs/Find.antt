@@ -8,7 +8,7 @@ use Rattle.model.specs.Lists.{if_then_else_}
 use Rattle.model.specs.Sheet.{Mark, same, belowX}
 use Rattle.table.specs.Layout.{mainPlace, rootPlace, deepest}
 use Rattle.table.specs.Marks.{slotMark}
-use Rattle.table.specs.Arms.{Arm, armAt, recordAt}
+use Rattle.nodes.specs.Arms.{Arm, armAt, recordAt}
 
 abbrev pub absent : ℕ
 absent = 4294967295

@@ -10,7 +10,7 @@ use Rattle.model.specs.Axis.{cellInside, cellClear}
 use Rattle.model.specs.Sheet.{Mark, Box, alongX, holds}
 use Rattle.table.specs.Layout.{capacityPlace, mainPlace, auxiliaryPlace, rootPlace, listPlace, deepest}
 use Rattle.table.specs.Marks.{slotMark, putMark}
-use Rattle.table.specs.Arms.{Arm, Record, armAt, recordAt}
+use Rattle.nodes.specs.Arms.{Arm, Record, armAt, recordAt}
 use Rattle.table.specs.Tally.{visited, lost}
 use Rattle.table.specs.After.{After, after}
 use Rattle.twofold.specs.Levels.{topLevel, deeper}

@@ -1,14 +1,14 @@
 // Counting: the planner's inner loop.
 ghost use mathlib.Core.Path.{_≡_};
 ghost use Rattle.geometry.specs.Values.{boxValue};
-ghost use Rattle.table.specs.Values.{primaryArm};
+ghost use Rattle.nodes.specs.Values.{primaryArm};
 ghost use Rattle.primary_search.specs.Count.{mainOpens♯, handed♯, mainSeen♯, mainSearch♯, mainCount♯};
 use geometry::Box;
+use nodes::primary::Primary;
+use nodes::primary::PrimaryArm;
+use nodes::primary::PrimaryRecord;
 use table::header;
 use table::limits;
-use table::primary::Primary;
-use table::primary::PrimaryArm;
-use table::primary::PrimaryRecord;
 use table::slots;
 use table::tally;
 use twofold::levels;

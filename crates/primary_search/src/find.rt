@@ -3,10 +3,10 @@ ghost use mathlib.Core.Path.{_≡_};
 ghost use Rattle.geometry.specs.Values.{markValue};
 ghost use Rattle.primary_search.specs.Find.{find♯, findBeneath♯};
 use geometry::Mark;
+use nodes::primary::PrimaryArm;
+use nodes::primary::PrimaryRecord;
 use table::header;
 use table::limits;
-use table::primary::PrimaryArm;
-use table::primary::PrimaryRecord;
 use table::slots;
 
 // No slot has the mark.

@@ -1,14 +1,14 @@
 // Listing: the same search, which writes each mark that it meets.
 ghost use mathlib.Core.Path.{_≡_};
 ghost use Rattle.geometry.specs.Values.{boxValue};
-ghost use Rattle.table.specs.Values.{primaryArm};
+ghost use Rattle.nodes.specs.Values.{primaryArm};
 ghost use Rattle.table.specs.After.{after};
 ghost use Rattle.primary_search.specs.List.{listLeaf♯, listBeneath♯, mainList♯};
 use geometry::Box;
+use nodes::primary::PrimaryArm;
+use nodes::primary::PrimaryRecord;
 use table::header;
 use table::limits;
-use table::primary::PrimaryArm;
-use table::primary::PrimaryRecord;
 use table::slots;
 use table::tally;
 use twofold::levels;

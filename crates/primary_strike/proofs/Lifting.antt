@@ -15,11 +15,11 @@ use Rattle.model.proofs.Sizes.{D-between, D-rises}
 use Rattle.model.proofs.Depth.{balanced-depth}
 use Rattle.model.proofs.Tree.{weight-marks}
 use Rattle.table.specs.Layout.{mainPlace, runPlace, levelPlace, recordPlace}
-use Rattle.table.specs.Arms.{arms, recordAt}
-use Rattle.table.specs.Holds.{number, armOf, times}
-use Rattle.table.proofs.Frames.{frame-run}
-use Rattle.table.proofs.Held.{times-node, times-least, held-least, Names, names-left, names-right}
-use Rattle.table.proofs.Levels.{levels-apart}
+use Rattle.nodes.specs.Arms.{arms, recordAt}
+use Rattle.nodes.specs.Holds.{number, armOf, times}
+use Rattle.nodes.proofs.Frames.{frame-run}
+use Rattle.nodes.proofs.Held.{times-node, times-least, held-least, Names, names-left, names-right}
+use Rattle.nodes.proofs.Levels.{levels-apart}
 use Rattle.twofold.specs.Rules.{SlotAuxiliary, SlotMain, AuxiliaryOf, AuxiliariesOf}
 use Rattle.twofold.specs.TwoFold.{HoldsAuxiliary, TwoFold}
 use Rattle.twofold.proofs.Frames.{TwoFrame, twoFrame-refl, twoFrame-trans, twoFrame-weaken, level-frame}

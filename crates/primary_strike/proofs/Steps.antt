@@ -19,11 +19,11 @@ use Rattle.model.proofs.Lists.{sameBag-length}
 use Rattle.model.proofs.Tree.{weight-pos, weight-marks, marks-pos, rebalance-marks}
 use Rattle.model.proofs.Rebalance.{balanced-rebuilt, balanced-rebalance}
 use Rattle.table.specs.Layout.{capacityPlace, mainPlace, auxiliaryPlace, levelPlace, recordPlace}
-use Rattle.table.specs.Arms.{Arm, overArm, armAt, putArm, putRecord}
-use Rattle.table.specs.Holds.{armOf, timesIn, times, Held}
+use Rattle.nodes.specs.Arms.{Arm, overArm, armAt, putArm, putRecord}
+use Rattle.nodes.specs.Holds.{armOf, timesIn, times, Held}
 use Rattle.table.specs.After.{After, after}
-use Rattle.table.proofs.Frames.{Region}
-use Rattle.table.proofs.Held.{times-node, Names, least-marks, names-left, names-right, Leaves}
+use Rattle.nodes.proofs.Frames.{Region}
+use Rattle.nodes.proofs.Held.{times-node, Names, least-marks, names-left, names-right, Leaves}
 use Rattle.twofold.specs.Rules.{SlotAuxiliary, SlotMain, slotAuxiliary, AuxiliaryOf, AuxiliariesOf, ByRules}
 use Rattle.twofold.specs.TwoFold.{TwoFold}
 use Rattle.twofold.proofs.Frames.{TwoFrame, twoFrame-trans, twoFrame-weaken, level-frame}

@@ -21,12 +21,12 @@ use Rattle.model.proofs.Sizes.{D-rises}
 use Rattle.model.proofs.Depth.{balanced-depth}
 use Rattle.model.proofs.Rebalance.{rebalance-left, rebalance-right, rebuilt-left, rebuilt-right}
 use Rattle.table.specs.Layout.{capacityPlace, mainPlace, rootPlace, levelPlace, deepest}
-use Rattle.table.specs.Arms.{noArm, arms, armAt}
-use Rattle.table.specs.Holds.{armOf, times}
+use Rattle.nodes.specs.Arms.{noArm, arms, armAt}
+use Rattle.nodes.specs.Holds.{armOf, times}
 use Rattle.table.specs.After.{After}
-use Rattle.table.proofs.Held.{times-node, times-least, held-weight, least-marks}
-use Rattle.table.proofs.Spots.{putArm-same}
-use Rattle.table.proofs.Levels.{held-depth, held-shallow}
+use Rattle.nodes.proofs.Held.{times-node, times-least, held-weight, least-marks}
+use Rattle.nodes.proofs.Spots.{putArm-same}
+use Rattle.nodes.proofs.Levels.{held-depth, held-shallow}
 use Rattle.twofold.specs.Rules.{SlotAuxiliary, SlotMain, slotAuxiliary, ByRules}
 use Rattle.twofold.specs.TwoFold.{TwoFold}
 use Rattle.twofold.proofs.Frames.{TwoFrame, arm-twoFrame}

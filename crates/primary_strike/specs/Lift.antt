@@ -6,7 +6,7 @@ use native.Mathlib.Omega.{arith}
 use lib.Dec.{eqb}
 use Rattle.model.specs.Lists.{if_then_else_}
 use Rattle.table.specs.Layout.{mainPlace, auxiliaryPlace, recordPlace}
-use Rattle.table.specs.Arms.{Record, armAt, recordAt}
+use Rattle.nodes.specs.Arms.{Record, armAt, recordAt}
 use Rattle.twofold.specs.Levels.{deeper}
 use Rattle.secondary_build.specs.Copy.{copy♯}
 

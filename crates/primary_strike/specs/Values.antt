@@ -1,5 +1,5 @@
 -- What the code's answers mean. Assumes nothing.
-use Rattle.table.specs.Values.{primaryArm}
+use Rattle.nodes.specs.Values.{primaryArm}
 use Rattle.secondary_update.specs.Updates.{Strike, strike}
 use Rattle.primary_strike.specs.declared.strike.Struck.{Struck}
 

@@ -1,8 +1,8 @@
 // The sibling of a struck leaf goes up one level, and the auxiliary trees beneath it with it.
 ghost use mathlib.Core.Path.{_≡_};
 ghost use Rattle.primary_strike.specs.Lift.{lift♯};
-use table::primary::Primary;
-use table::primary::PrimaryRecord;
+use nodes::primary::Primary;
+use nodes::primary::PrimaryRecord;
 use twofold::levels;
 
 // More levels than a tree of three marks has: in a balanced tree the sibling of a leaf has no more.

@@ -18,11 +18,11 @@ use Rattle.model.proofs.Lists.{countIf-append}
 use Rattle.model.proofs.Tree.{weight-marks, marks-pos, marks-least, build-induction}
 use Rattle.table.specs.Layout.{capacityPlace, runPlace}
 use Rattle.table.specs.Marks.{slotMark}
-use Rattle.table.specs.Arms.{Arm}
-use Rattle.table.specs.Holds.{armOf, timesIn, times, Held}
+use Rattle.nodes.specs.Arms.{Arm}
+use Rattle.nodes.specs.Holds.{armOf, timesIn, times, Held}
 use Rattle.table.specs.After.{After}
-use Rattle.table.proofs.Frames.{sets-at, Region, Frame, frame-refl, frame-trans, frame-weaken, frame-run, frame-mark, putRecord-frame}
-use Rattle.table.proofs.Held.{times-least, held-weight, held-least, held-frame, leafArm-of, overArm-of, node-held, Names, names-left, names-right, names-own, Leaves}
+use Rattle.nodes.proofs.Frames.{sets-at, Region, Frame, frame-refl, frame-trans, frame-weaken, frame-run, frame-mark, putRecord-frame}
+use Rattle.nodes.proofs.Held.{times-least, held-weight, held-least, held-frame, leafArm-of, overArm-of, node-held, Names, names-left, names-right, names-own, Leaves}
 use Rattle.secondary_build.specs.Build.{runLeaf, buildOver, buildNode, build♯, build♯-leaf, build♯-node, rebuildRun, rebuildWithin, rebuild♯}
 use Rattle.secondary_build.proofs.Collecting.{run-frame, collect-holds}
 

@@ -12,10 +12,10 @@ use Rattle.model.specs.Tree.{Tree, leaf, node, weight, depth, marks, least}
 use Rattle.model.specs.Sheet.{Mark, Box}
 use Rattle.model.proofs.Tree.{weight-pos, weight-marks}
 use Rattle.table.specs.Layout.{runPlace}
-use Rattle.table.specs.Holds.{number, Held}
+use Rattle.nodes.specs.Holds.{number, Held}
 use Rattle.table.specs.After.{after}
-use Rattle.table.proofs.Frames.{sets-other, sets-append, Region, Frame}
-use Rattle.table.proofs.Held.{held-left, held-right, held-frame}
+use Rattle.nodes.proofs.Frames.{sets-other, sets-append, Region, Frame}
+use Rattle.nodes.proofs.Held.{held-left, held-right, held-frame}
 use Rattle.secondary_build.specs.Collect.{collectRecord, collectNode, collect♯}
 
 -- slots written into run A leave all records alone

@@ -12,10 +12,10 @@ use Rattle.model.specs.Tree.{Tree, leaf, node, depth, least}
 use Rattle.model.specs.Sheet.{Mark, Box}
 use Rattle.table.specs.Layout.{runPlace}
 use Rattle.table.specs.Marks.{slotMark}
-use Rattle.table.specs.Arms.{arms, recordAt, putRecord}
-use Rattle.table.specs.Holds.{number, armOf, Holds, times, Held}
-use Rattle.table.proofs.Frames.{Region, Frame, frame-refl, frame-trans, frame-weaken, frame-run, record-same, frame-record, frame-mark, putRecord-frame, putRecord-same}
-use Rattle.table.proofs.Held.{times-node, times-least, held-left, held-right, held-least, held-frame, Names, names-left, names-right, names-own}
+use Rattle.nodes.specs.Arms.{arms, recordAt, putRecord}
+use Rattle.nodes.specs.Holds.{number, armOf, Holds, times, Held}
+use Rattle.nodes.proofs.Frames.{Region, Frame, frame-refl, frame-trans, frame-weaken, frame-run, record-same, frame-record, frame-mark, putRecord-frame, putRecord-same}
+use Rattle.nodes.proofs.Held.{times-node, times-least, held-left, held-right, held-least, held-frame, Names, names-left, names-right, names-own}
 use Rattle.secondary_build.specs.Copy.{copyRecord, copyNode, copy♯}
 
 -- what copying leaves: the tree at its new places and at its old ones, and all words as they were but for the records of its names at the new places

@@ -12,7 +12,7 @@ use Rattle.model.specs.Sheet.{Mark, Box}
 use Rattle.model.proofs.Logic.{by-cases}
 use Rattle.table.specs.Layout.{capacityPlace, runPlace, deepest}
 use Rattle.table.specs.Marks.{slotMark}
-use Rattle.table.specs.Arms.{Arm, noArm, leafArm, overArm, putRecord}
+use Rattle.nodes.specs.Arms.{Arm, noArm, leafArm, overArm, putRecord}
 use Rattle.table.specs.After.{After, after}
 use Rattle.secondary_build.specs.Collect.{collect♯}
 

@@ -5,7 +5,7 @@ use mathlib.Core.List.{List}
 use native.Mathlib.Omega.{arith}
 use lib.Dec.{eqb}
 use Rattle.model.specs.Lists.{if_then_else_}
-use Rattle.table.specs.Arms.{Record, recordAt, putRecord}
+use Rattle.nodes.specs.Arms.{Record, recordAt, putRecord}
 
 -- from a node's number and the words
 abbrev pub Copying : Type 0

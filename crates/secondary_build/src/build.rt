@@ -4,14 +4,14 @@ ghost use Prim.Native.Nat.{_+_, _<_, _^_};
 ghost use Rattle.model.specs.Sheet.{alongY};
 ghost use Rattle.table.specs.After.{after};
 ghost use Rattle.table.specs.Layout.{recordPlace};
-ghost use Rattle.table.specs.Values.{secondaryArm};
+ghost use Rattle.nodes.specs.Values.{secondaryArm};
 ghost use Rattle.secondary_build.specs.Build.{runLeaf, build♯, rebuild♯};
 use crate::collect;
+use nodes::secondary::SecondaryArm;
+use nodes::secondary::SecondaryRecord;
 use table::header;
 use table::limits;
 use table::runs;
-use table::secondary::SecondaryArm;
-use table::secondary::SecondaryRecord;
 use table::slots;
 
 // The leaf of the slot at place i of run A.

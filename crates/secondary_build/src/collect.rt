@@ -3,9 +3,9 @@ ghost use mathlib.Core.Path.{_≡_};
 ghost use Rattle.table.specs.After.{after};
 ghost use Rattle.secondary_build.specs.Collect.{collect♯};
 ghost use Rattle.table.specs.Layout.{recordPlace};
+use nodes::secondary::Secondary;
+use nodes::secondary::SecondaryRecord;
 use table::runs;
-use table::secondary::Secondary;
-use table::secondary::SecondaryRecord;
 
 // More slots than any run has.
 pub const LOST: u32 = 4294967295;

@@ -2,8 +2,8 @@
 ghost use mathlib.Core.Path.{_≡_};
 ghost use Rattle.table.specs.Layout.{recordPlace};
 ghost use Rattle.secondary_build.specs.Copy.{copy♯};
-use table::secondary::Secondary;
-use table::secondary::SecondaryRecord;
+use nodes::secondary::Secondary;
+use nodes::secondary::SecondaryRecord;
 
 // Copies the records beneath a node from one level to another, fuel levels down.
 pub fn copy(t: &mut [u32], from: u32, to: u32, node: Secondary, fuel: u32)

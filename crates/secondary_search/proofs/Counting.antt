@@ -17,8 +17,8 @@ use Rattle.model.specs.Laws.{All, cons}
 use Rattle.model.proofs.Logic.{by-cases}
 use Rattle.model.proofs.Lists.{all-left, all-right}
 use Rattle.table.specs.Layout.{recordPlace}
-use Rattle.table.specs.Arms.{Arm, Record, arms, recordAt}
-use Rattle.table.specs.Holds.{armOf, Holds}
+use Rattle.nodes.specs.Arms.{Arm, Record, arms, recordAt}
+use Rattle.nodes.specs.Holds.{armOf, Holds}
 use Rattle.table.specs.Tally.{mostVisits, pack}
 use Rattle.table.proofs.Tallies.{visited-pack, pack-visits}
 use Rattle.secondary_search.specs.Count.{opens♯, seen♯, Search, searchChildren, searchRecord, searchNode, search♯, count♯}

@@ -23,11 +23,11 @@ use Rattle.model.proofs.Slots.{map-append}
 use Rattle.model.proofs.Tree.{weight-pos, weight-marks, nodes, nodes-weight}
 use Rattle.table.specs.Layout.{recordPlace, listPlace}
 use Rattle.table.specs.Marks.{slotMark, putMark}
-use Rattle.table.specs.Arms.{arms, recordAt}
-use Rattle.table.specs.Holds.{number, armOf, Holds, CarriesBag}
+use Rattle.nodes.specs.Arms.{arms, recordAt}
+use Rattle.nodes.specs.Holds.{number, armOf, Holds, CarriesBag}
 use Rattle.table.specs.Tally.{visited, lost, pack}
 use Rattle.table.specs.After.{After, after}
-use Rattle.table.proofs.Frames.{sets-append}
+use Rattle.nodes.proofs.Frames.{sets-append}
 use Rattle.table.proofs.Tallies.{visited-pack, pack-visits, pack-found}
 use Rattle.secondary_search.specs.List.{walkLeaf, walkRecord, walkNode, walk♯, listRecord, listNode, list♯}
 use Rattle.secondary_search.proofs.Counting.{Carries, leaf-clear, Settled, settled-holds}

@@ -9,7 +9,7 @@ use Rattle.model.specs.Lists.{if_then_else_}
 use Rattle.model.specs.Axis.{cellInside, cellClear}
 use Rattle.model.specs.Sheet.{Box, alongY}
 use Rattle.table.specs.Layout.{recordPlace, deepest}
-use Rattle.table.specs.Arms.{Arm, Record, recordAt}
+use Rattle.nodes.specs.Arms.{Arm, Record, recordAt}
 use Rattle.table.specs.Tally.{visited, lost, mostVisits}
 
 unfoldable pub opens♯ : Box → Arm → Bool

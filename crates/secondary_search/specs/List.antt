@@ -9,7 +9,7 @@ use Rattle.model.specs.Axis.{cellInside, cellClear}
 use Rattle.model.specs.Sheet.{Box, alongY}
 use Rattle.table.specs.Layout.{recordPlace, listPlace}
 use Rattle.table.specs.Marks.{slotMark, putMark}
-use Rattle.table.specs.Arms.{Arm, Record, recordAt}
+use Rattle.nodes.specs.Arms.{Arm, Record, recordAt}
 use Rattle.table.specs.Tally.{visited, lost}
 use Rattle.table.specs.After.{After, after}
 

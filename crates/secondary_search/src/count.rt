@@ -1,13 +1,13 @@
 // Counting: the planner's inner loop.
 ghost use mathlib.Core.Path.{_≡_};
 ghost use Rattle.geometry.specs.Values.{boxValue};
-ghost use Rattle.table.specs.Values.{secondaryArm};
+ghost use Rattle.nodes.specs.Values.{secondaryArm};
 ghost use Rattle.secondary_search.specs.Count.{opens♯, seen♯, search♯, count♯};
 use geometry::Box;
+use nodes::secondary::Secondary;
+use nodes::secondary::SecondaryArm;
+use nodes::secondary::SecondaryRecord;
 use table::limits;
-use table::secondary::Secondary;
-use table::secondary::SecondaryArm;
-use table::secondary::SecondaryRecord;
 use table::tally;
 
 // Whether a cell is neither inside the box's side nor clear of it.

@@ -1,15 +1,15 @@
 // Listing: the same search, which writes each mark that it meets.
 ghost use mathlib.Core.Path.{_≡_};
 ghost use Rattle.geometry.specs.Values.{boxValue};
-ghost use Rattle.table.specs.Values.{secondaryArm};
+ghost use Rattle.nodes.specs.Values.{secondaryArm};
 ghost use Rattle.table.specs.After.{after};
 ghost use Rattle.table.specs.Layout.{deepest};
 ghost use Rattle.secondary_search.specs.List.{walk♯, list♯};
 use geometry::Box;
+use nodes::secondary::Secondary;
+use nodes::secondary::SecondaryArm;
+use nodes::secondary::SecondaryRecord;
 use table::limits;
-use table::secondary::Secondary;
-use table::secondary::SecondaryArm;
-use table::secondary::SecondaryRecord;
 use table::slots;
 use table::tally;
 

@@ -16,12 +16,12 @@ use Rattle.model.specs.Laws.{Sorted}
 use Rattle.model.proofs.Orders.{sheet-sameness, same-sound, alongY-laws}
 use Rattle.table.specs.Layout.{capacityPlace, auxiliaryPlace, runPlace, recordPlace, deepest}
 use Rattle.table.specs.Marks.{slotMark}
-use Rattle.table.specs.Arms.{Arm, armAt}
-use Rattle.table.specs.Holds.{armOf, times, Held}
-use Rattle.table.proofs.Frames.{Region}
-use Rattle.table.proofs.Held.{Leaves}
-use Rattle.table.proofs.Spots.{auxiliary-spot, LeavesAt}
-use Rattle.table.proofs.Levels.{held-shallow}
+use Rattle.nodes.specs.Arms.{Arm, armAt}
+use Rattle.nodes.specs.Holds.{armOf, times, Held}
+use Rattle.nodes.proofs.Frames.{Region}
+use Rattle.nodes.proofs.Held.{Leaves}
+use Rattle.nodes.proofs.Spots.{auxiliary-spot, LeavesAt}
+use Rattle.nodes.proofs.Levels.{held-shallow}
 use Rattle.secondary_update.specs.Insert.{damaged, insert♯}
 use Rattle.secondary_update.specs.Strike.{strike♯}
 use Rattle.secondary_update.proofs.Inserting.{axis-coordinate, Ready, grows-sound, insert-holds}

@@ -22,12 +22,13 @@ use Rattle.model.proofs.Tree.{weight-pos, marks-pos, all-least, all-greatest, b
 use Rattle.model.proofs.Rebalance.{rebalance-left, rebalance-right, rebuilt-left, rebuilt-right}
 use Rattle.table.specs.Layout.{capacityPlace}
 use Rattle.table.specs.Marks.{slotMark}
-use Rattle.table.specs.Arms.{Arm, arm, arms, sum, lesser, greater, grownArm, armAt, putArm}
-use Rattle.table.specs.Holds.{number, armOf, times, Held}
+use Rattle.nodes.specs.Arms.{Arm, arm, arms, grownArm, armAt, putArm}
+use Rattle.table.specs.Weights.{sum, lesser, greater}
+use Rattle.nodes.specs.Holds.{number, armOf, times, Held}
 use Rattle.table.specs.After.{After, after}
-use Rattle.table.proofs.Frames.{Region, frame-refl}
-use Rattle.table.proofs.Held.{times-node, times-least, held-weight, held-least, held-left, held-right, leafArm-of, Names, greatest-marks, names-marks, Leaves}
-use Rattle.table.proofs.Spots.{record-arms, putArm-length, putArm-same, frameAt-of, frameAt-weaken, putArm-frame, Spot, spot-weaken, record-spot, spot-capacity, spot-mark, spot-held, LeavesAt, put-leaves, left-leaves, right-leaves}
+use Rattle.nodes.proofs.Frames.{Region, frame-refl}
+use Rattle.nodes.proofs.Held.{times-node, times-least, held-weight, held-least, held-left, held-right, leafArm-of, Names, greatest-marks, names-marks, Leaves}
+use Rattle.nodes.proofs.Spots.{record-arms, putArm-length, putArm-same, frameAt-of, frameAt-weaken, putArm-frame, Spot, spot-weaken, record-spot, spot-capacity, spot-mark, spot-held, LeavesAt, put-leaves, left-leaves, right-leaves}
 use Rattle.secondary_build.specs.Build.{rebuild♯}
 use Rattle.secondary_build.proofs.Building.{rebuild-holds}
 use Rattle.secondary_update.specs.Insert.{damaged, unsteady♯, childPlace, nodeAt, split♯, putFresh, afresh♯, Insertion, insertAfresh, insertWay, insertRecord, insertArm, insertNode, insert♯}

@@ -17,11 +17,11 @@ use Rattle.model.proofs.Logic.{by-cases, clash}
 use Rattle.model.proofs.Tree.{marks-pos, build-marks}
 use Rattle.model.proofs.Rebalance.{rebalance-left, rebalance-right, rebuilt-left, rebuilt-right}
 use Rattle.table.specs.Layout.{capacityPlace, runPlace}
-use Rattle.table.specs.Arms.{Arm, overArm, putRecord}
-use Rattle.table.specs.Holds.{armOf, times, Held}
+use Rattle.nodes.specs.Arms.{Arm, overArm, putRecord}
+use Rattle.nodes.specs.Holds.{armOf, times, Held}
 use Rattle.table.specs.After.{After}
-use Rattle.table.proofs.Frames.{Region, Frame, frame-trans, frame-weaken, frame-run, frame-header, putRecord-frame}
-use Rattle.table.proofs.Held.{held-weight, held-least, overArm-of, held-frame, node-held, Names, names-marks, names-left, names-right, names-own, Leaves}
+use Rattle.nodes.proofs.Frames.{Region, Frame, frame-trans, frame-weaken, frame-run, frame-header, putRecord-frame}
+use Rattle.nodes.proofs.Held.{held-weight, held-least, overArm-of, held-frame, node-held, Names, names-marks, names-left, names-right, names-own, Leaves}
 use Rattle.secondary_build.proofs.Building.{rebuild-holds}
 use Rattle.secondary_update.specs.Updates.{Update}
 use Rattle.secondary_update.specs.Node.{afresh, join♯}

@@ -8,8 +8,8 @@ use Rattle.model.specs.Axis.{Axis}
 use Rattle.model.specs.Register.{Register}
 use Rattle.model.specs.Tree.{Tree, node, weight, marks, least}
 use Rattle.model.proofs.Tree.{weight-marks, rebalance-marks}
-use Rattle.table.specs.Holds.{timesIn, times}
-use Rattle.table.proofs.Held.{Names, least-marks, names-marks}
+use Rattle.nodes.specs.Holds.{timesIn, times}
+use Rattle.nodes.proofs.Held.{Names, least-marks, names-marks}
 use Rattle.secondary_update.proofs.Mending.{mended, MayMend}
 
 -- mending keeps the slots in their order

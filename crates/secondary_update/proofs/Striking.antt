@@ -22,11 +22,11 @@ use Rattle.model.proofs.Slots.{slotSpace-sameness, slotAxis-laws}
 use Rattle.model.proofs.Tree.{weight-pos, all-above, left-all-below}
 use Rattle.model.proofs.Rebalance.{balanced-rebuilt, balanced-rebalance}
 use Rattle.table.specs.Layout.{capacityPlace}
-use Rattle.table.specs.Arms.{arms}
-use Rattle.table.specs.Holds.{armOf, times, Held}
+use Rattle.nodes.specs.Arms.{arms}
+use Rattle.nodes.specs.Holds.{armOf, times, Held}
 use Rattle.table.specs.After.{After}
-use Rattle.table.proofs.Frames.{Region, frame-refl}
-use Rattle.table.proofs.Held.{times-node, times-least, held-left, held-right, Leaves}
+use Rattle.nodes.proofs.Frames.{Region, frame-refl}
+use Rattle.nodes.proofs.Held.{times-node, times-least, held-left, held-right, Leaves}
 use Rattle.secondary_update.specs.Updates.{Strike, strikeOf}
 use Rattle.secondary_update.specs.Strike.{Striking, ifStruck, withFirst, renamed♯, strikeLeft, strikeRight, strikeRecord, strikeNode, strike♯}
 use Rattle.secondary_update.proofs.Mending.{mended, figure, MayMend}

@@ -9,7 +9,8 @@ use Rattle.model.specs.Lists.{if_then_else_}
 use Rattle.model.specs.Axis.{Axis}
 use Rattle.model.specs.Sheet.{Mark, Box}
 use Rattle.table.specs.Marks.{slotMark}
-use Rattle.table.specs.Arms.{Arm, Record, leafArm, overArm, grownArm, armAt, putArm, recordAt, putRecord, sum}
+use Rattle.nodes.specs.Arms.{Arm, Record, leafArm, overArm, grownArm, armAt, putArm, recordAt, putRecord}
+use Rattle.table.specs.Weights.{sum}
 use Rattle.table.specs.After.{After, after}
 use Rattle.secondary_build.specs.Build.{rebuild♯}
 use Rattle.secondary_update.specs.Node.{balanced}

@@ -6,7 +6,7 @@ use lib.Dec.{leb}
 use Rattle.model.specs.Lists.{if_then_else_}
 use Rattle.model.specs.Axis.{Axis}
 use Rattle.model.specs.Sheet.{Mark, Box}
-use Rattle.table.specs.Arms.{Arm, overArm, putRecord}
+use Rattle.nodes.specs.Arms.{Arm, overArm, putRecord}
 use Rattle.table.specs.After.{After, after}
 use Rattle.secondary_build.specs.Build.{rebuild♯}
 use Rattle.secondary_update.specs.Updates.{Update, update}

@@ -9,7 +9,7 @@ use Rattle.model.specs.Lists.{if_then_else_}
 use Rattle.model.specs.Axis.{Axis}
 use Rattle.model.specs.Sheet.{Mark, Box}
 use Rattle.table.specs.Marks.{slotMark}
-use Rattle.table.specs.Arms.{Arm, Record, recordAt}
+use Rattle.nodes.specs.Arms.{Arm, Record, recordAt}
 use Rattle.table.specs.After.{After, after}
 use Rattle.secondary_update.specs.Updates.{Update, Strike, strikeOf, noStrike}
 use Rattle.secondary_update.specs.Node.{balanced, join♯}

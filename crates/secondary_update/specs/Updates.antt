@@ -1,7 +1,7 @@
 -- What an update gives: the tree's arm and the weight of the node built afresh, or 0; a strike also the least slot left, where the least was struck.
 -- Assumes nothing.
 use Prim.Native.Nat.{ℕ}
-use Rattle.table.specs.Arms.{Arm, noArm}
+use Rattle.nodes.specs.Arms.{Arm, noArm}
 
 pub record Update : Type 0 where
   pub arm : Arm

@@ -1,5 +1,5 @@
 -- What the code's answers mean. Assumes nothing.
-use Rattle.table.specs.Values.{secondaryArm}
+use Rattle.nodes.specs.Values.{secondaryArm}
 use Rattle.secondary_update.specs.Updates.{Update, update, Strike, strike}
 use Rattle.secondary_update.specs.declared.node.Updated.{Updated}
 use Rattle.secondary_update.specs.declared.strike.Struck.{Struck}

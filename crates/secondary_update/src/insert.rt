@@ -6,12 +6,12 @@ ghost use Rattle.model.specs.Sheet.{alongY};
 ghost use Rattle.geometry.specs.Values.{markValue};
 ghost use Rattle.table.specs.After.{after};
 ghost use Rattle.table.specs.Layout.{auxiliaryPlace, recordPlace, deepest};
-ghost use Rattle.table.specs.Values.{secondaryArm};
+ghost use Rattle.nodes.specs.Values.{secondaryArm};
 ghost use Rattle.secondary_update.specs.Insert.{unsteady♯, childPlace, split♯, afresh♯, insert♯};
 use geometry::Mark;
+use nodes::secondary::SecondaryArm;
+use nodes::secondary::SecondaryRecord;
 use table::limits;
-use table::secondary::SecondaryArm;
-use table::secondary::SecondaryRecord;
 use table::slots;
 use table::weights;
 

@@ -4,11 +4,11 @@ ghost use mathlib.Core.Bool.{_&&_};
 ghost use Rattle.model.specs.Sheet.{alongY};
 ghost use Rattle.table.specs.After.{after};
 ghost use Rattle.table.specs.Layout.{recordPlace};
-ghost use Rattle.table.specs.Values.{secondaryArm};
+ghost use Rattle.nodes.specs.Values.{secondaryArm};
 ghost use Rattle.secondary_update.specs.Node.{join♯};
 ghost use Rattle.secondary_update.specs.Values.{updatedValue};
-use table::secondary::SecondaryArm;
-use table::secondary::SecondaryRecord;
+use nodes::secondary::SecondaryArm;
+use nodes::secondary::SecondaryRecord;
 use table::weights;
 
 // What is left of a tree: its arm, and the weight of the node built afresh, or 0.

@@ -5,15 +5,15 @@ ghost use Rattle.model.specs.Sheet.{alongY};
 ghost use Rattle.geometry.specs.Values.{markValue};
 ghost use Rattle.table.specs.After.{after};
 ghost use Rattle.table.specs.Layout.{recordPlace, deepest};
-ghost use Rattle.table.specs.Values.{secondaryArm};
+ghost use Rattle.nodes.specs.Values.{secondaryArm};
 ghost use Rattle.secondary_update.specs.Strike.{renamed♯, strike♯};
 ghost use Rattle.secondary_update.specs.Updates.{strikeOf, noStrike};
 ghost use Rattle.secondary_update.specs.Values.{struckValue};
 use crate::node;
 use geometry::Mark;
+use nodes::secondary::SecondaryArm;
+use nodes::secondary::SecondaryRecord;
 use table::limits;
-use table::secondary::SecondaryArm;
-use table::secondary::SecondaryRecord;
 use table::slots;
 use table::weights;
 

@@ -7,7 +7,6 @@ use lib.ListN.{length, set}
 use borrow.Author.Tests.{le-leb}
 use Rattle.model.specs.Sheet.{Mark}
 use Rattle.table.specs.Marks.{putMark}
-use Rattle.table.specs.Arms.{Arm, putArm, putRecord}
 
 -- a sum of a place and a numeral, one by one
 next : (at k : ℕ) → suc (at + k) ≡ at + suc k
@@ -17,17 +16,3 @@ module _ (xs : List ℕ) (at : ℕ) where
   pub putMark-stores : (m : Mark) → at + 3 ≤ length xs → set (set (set xs at (m .x)) (at + 1) (m .y)) (at + 2) (m .tag) ≡ putMark xs at m
   unfolding putMark
   putMark-stores m h = let e : suc at ≡ at + 1 = omega arith in rw (le-leb (at + 3) (length xs) h, e, next at 1)
-
-  pub putArm-stores : (a : Arm) → at + 4 ≤ length xs
-      → set (set (set (set xs at (a .node)) (at + 1) (a .weight)) (at + 2) (a .least)) (at + 3) (a .greatest) ≡ putArm xs at a
-  unfolding putArm
-  putArm-stores a h = let e : suc at ≡ at + 1 = omega arith in rw (le-leb (at + 4) (length xs) h, e, next at 1, next at 2)
-
-  pub putRecord-stores : (l r : Arm) → at + 8 ≤ length xs
-      → set (set (set (set (set (set (set (set xs at (l .node)) (at + 1) (l .weight)) (at + 2) (l .least)) (at + 3) (l .greatest)) (at + 4) (r .node))
-      (at + 5) (r .weight)) (at + 6) (r .least)) (at + 7) (r .greatest)
-      ≡ putRecord xs at l r
-  unfolding putRecord
-  putRecord-stores l r h =
-      let e : suc at ≡ at + 1 = omega arith in
-      rw (le-leb (at + 8) (length xs) h, e, next at 1, next at 2, next at 3, next at 4, next at 5, next at 6)

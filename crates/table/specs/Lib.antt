@@ -1,8 +1,6 @@
--- What the words of a table say, to be read in this order. `Values` gives the code's structs their meaning.
+-- What the words of a table say, to be read in this order.
 pub mod Layout
 pub mod Marks
-pub mod Arms
-pub mod Values
-pub mod Holds
+pub mod Weights
 pub mod Tally
 pub mod After

@@ -3,7 +3,7 @@ ghost use mathlib.Core.Path.{_≡_};
 ghost use mathlib.Core.Bool.{not, _&&_};
 ghost use Prim.Native.Nat.{_+_, _*_, _-_};
 ghost use lib.Dec.{leb, eqb};
-ghost use Rattle.table.specs.Arms.{sum, lesser, greater};
+ghost use Rattle.table.specs.Weights.{sum, lesser, greater};
 
 // The weight of a node over children of these weights.
 pub fn sum(l: u32, r: u32) -> u32

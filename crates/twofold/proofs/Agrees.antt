@@ -18,7 +18,7 @@ use Rattle.model.proofs.Slots.{map-append, map-weight, map-marks}
 use Rattle.model.proofs.Carried.{Carried}
 use Rattle.model.proofs.Fold.{settledWith, foldBound, innermost-laws, innermost-represents}
 use Rattle.model.proofs.TwoFold.{unsettled, both-settled, auxiliary-laws, auxiliary-represents, Agrees}
-use Rattle.table.specs.Holds.{CarriesBag}
+use Rattle.nodes.specs.Holds.{CarriesBag}
 use Rattle.twofold.specs.Rules.{SlotAuxiliary, SlotMain, AuxiliaryOf, AuxiliariesOf, ByRules, marksMain}
 
 module _ (f : ℕ → Mark) where

@@ -8,9 +8,9 @@ use lib.ListN.{length, getD}
 use lib.Seq.{sets, length-sets}
 use Rattle.model.proofs.Logic.{by-order}
 use Rattle.table.specs.Layout.{capacityPlace, slotPlace, mainPlace, auxiliaryPlace, rootPlace, usedPlace, runPlace, secondRunPlace, levelPlace, recordPlace}
-use Rattle.table.specs.Arms.{Arm, putArm, putRecord}
-use Rattle.table.proofs.Frames.{sets-other, Frame, frame-weaken, frame-run, putRecord-frame}
-use Rattle.table.proofs.Spots.{FrameAt, putArm-length, putArm-other}
+use Rattle.nodes.specs.Arms.{Arm, putArm, putRecord}
+use Rattle.nodes.proofs.Frames.{sets-other, Frame, frame-weaken, frame-run, putRecord-frame}
+use Rattle.nodes.proofs.Spots.{FrameAt, putArm-length, putArm-other}
 
 -- In a table of capacity C all words are the same but for: the records of the main nodes that P tells with the arms of their auxiliary trees (12 words),
 -- in the levels of depth d and deeper the records of the slots that Q tells, the two runs, and `width` words from `at` on.

@@ -14,9 +14,9 @@ use Rattle.model.specs.Sheet.{Mark, Box, alongX, alongY}
 use Rattle.model.specs.Slots.{slotAxis, mapTree}
 use Rattle.model.specs.Laws.{All, nil, cons, Sorted, sorted[], sorted∷}
 use Rattle.model.proofs.Lists.{countIf-append}
-use Rattle.table.specs.Arms.{arms}
-use Rattle.table.specs.Holds.{armOf, Holds, timesIn, times, Held, CarriesBag}
-use Rattle.table.proofs.Held.{times-node, times-least}
+use Rattle.nodes.specs.Arms.{arms}
+use Rattle.nodes.specs.Holds.{armOf, Holds, timesIn, times, Held, CarriesBag}
+use Rattle.nodes.proofs.Held.{times-node, times-least}
 use Rattle.twofold.specs.Rules.{SlotAuxiliary, SlotMain, AuxiliaryOf, AuxiliariesOf, ByRules, marksMain}
 use Rattle.twofold.specs.TwoFold.{HoldsAuxiliary, HoldsAuxiliaries, TwoFold}
 use Rattle.twofold.proofs.Rules.{rules-auxiliary-times}

@@ -10,11 +10,11 @@ use Rattle.model.specs.Sizes.{W}
 use Rattle.model.specs.Tree.{Tree, node, weight, least}
 use Rattle.model.specs.Sheet.{Mark, alongX, alongY}
 use Rattle.table.specs.Layout.{mainPlace, auxiliaryPlace, rootPlace, levelPlace, recordPlace}
-use Rattle.table.specs.Arms.{Arm, arms, overArm, recordAt, putArm, putRecord}
-use Rattle.table.specs.Holds.{armOf, times, Held}
-use Rattle.table.proofs.Frames.{record-same, putRecord-frame, putRecord-same}
-use Rattle.table.proofs.Held.{times-least, held-least, held-weight, overArm-of, Names, names-own, held-same}
-use Rattle.table.proofs.Spots.{putArm-length, putArm-other, putArm-same}
+use Rattle.nodes.specs.Arms.{Arm, arms, overArm, recordAt, putArm, putRecord}
+use Rattle.nodes.specs.Holds.{armOf, times, Held}
+use Rattle.nodes.proofs.Frames.{record-same, putRecord-frame, putRecord-same}
+use Rattle.nodes.proofs.Held.{times-least, held-least, held-weight, overArm-of, Names, names-own, held-same}
+use Rattle.nodes.proofs.Spots.{putArm-length, putArm-other, putArm-same}
 use Rattle.twofold.specs.Rules.{SlotAuxiliary, SlotMain, AuxiliariesOf}
 use Rattle.twofold.specs.TwoFold.{TwoFold}
 use Rattle.twofold.proofs.Frames.{TwoFrame, twoFrame-trans, twoFrame-weaken, twoFrame-at, arm-twoFrame, auxiliary-twoFrame, record-twoFrame, root-spot}

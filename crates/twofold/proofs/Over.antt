@@ -8,11 +8,11 @@ use Rattle.model.specs.Sizes.{D, W}
 use Rattle.model.specs.Tree.{node, least}
 use Rattle.model.specs.Sheet.{Mark, alongX}
 use Rattle.table.specs.Layout.{mainPlace, levelPlace, recordPlace}
-use Rattle.table.specs.Arms.{Arm, arms, armAt, recordAt}
-use Rattle.table.specs.Holds.{armOf, times}
-use Rattle.table.proofs.Frames.{Region}
-use Rattle.table.proofs.Held.{held-left, held-right, held-over, Names}
-use Rattle.table.proofs.Levels.{table-level, table-main}
+use Rattle.nodes.specs.Arms.{Arm, arms, armAt, recordAt}
+use Rattle.nodes.specs.Holds.{armOf, times}
+use Rattle.nodes.proofs.Frames.{Region}
+use Rattle.nodes.proofs.Held.{held-left, held-right, held-over, Names}
+use Rattle.nodes.proofs.Levels.{table-level, table-main}
 use Rattle.twofold.specs.Levels.{topLevel, deeper}
 use Rattle.twofold.specs.Rules.{SlotAuxiliary, SlotMain}
 use Rattle.twofold.specs.TwoFold.{HoldsAuxiliary, TwoFold}

@@ -25,7 +25,7 @@ use Rattle.model.proofs.Slots.{slotSpace-sameness, slotAxis-laws}
 use Rattle.model.proofs.Carried.{Carried, CarriedOf, build-carried, insert-carried, strike-carried, rebalance-carried}
 use Rattle.model.proofs.Fold.{settledWith, foldBound, innermost-laws, innermost-bag, innermost-represents, Sound, fold-laws, fold-sound, fold-represents}
 use Rattle.model.proofs.TwoFold.{both-settled}
-use Rattle.table.specs.Holds.{timesIn, times, CarriesBag}
+use Rattle.nodes.specs.Holds.{timesIn, times, CarriesBag}
 use Rattle.twofold.specs.Rules.{SlotAuxiliary, SlotMain, slotAuxiliary, AuxiliaryOf, AuxiliariesOf, ByRules}
 
 -- Slots that pass a test: no fewer than one slot of them, and than two.

@@ -9,7 +9,7 @@ use Rattle.model.specs.Fold.{fold}
 use Rattle.model.specs.Sheet.{Mark, Box, sheet, alongX, alongY, Main}
 use Rattle.model.specs.Slots.{slotSpace, slotAxis, mapTree}
 use Rattle.model.specs.Laws.{SameBag, Sorted}
-use Rattle.table.specs.Holds.{CarriesBag}
+use Rattle.nodes.specs.Holds.{CarriesBag}
 
 -- what an inner main node carries, and the main tree
 abbrev pub SlotAuxiliary : Type 0

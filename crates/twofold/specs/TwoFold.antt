@@ -7,8 +7,8 @@ use mathlib.Core.Option.{some}
 use Rattle.model.specs.Tree.{Tree, leaf, node, least}
 use Rattle.model.specs.Sheet.{Mark, alongX, alongY}
 use Rattle.table.specs.Layout.{mainPlace, auxiliaryPlace, levelPlace, recordPlace}
-use Rattle.table.specs.Arms.{armAt}
-use Rattle.table.specs.Holds.{armOf, Held}
+use Rattle.nodes.specs.Arms.{armAt}
+use Rattle.nodes.specs.Holds.{armOf, Held}
 use Rattle.twofold.specs.Rules.{SlotAuxiliary, SlotMain}
 
 module _ (f : ℕ → Mark) (C : ℕ) where

@@ -8,8 +8,8 @@ use Rattle.primary.proofs.empty.free_slots.Reads as free-slots-reads
 use Rattle.table.proofs.header.put_capacity.Reads as put-capacity-reads
 use Rattle.table.proofs.header.put_live.Reads as put-live-reads
 use Rattle.table.proofs.header.put_open.Reads as put-open-reads
-use Rattle.table.proofs.primary.PrimaryArm.none.Reads as none-reads
-use Rattle.table.proofs.primary.PrimaryArm.put.Reads as put-reads
+use Rattle.nodes.proofs.primary.PrimaryArm.none.Reads as none-reads
+use Rattle.nodes.proofs.primary.PrimaryArm.put.Reads as put-reads
 
 -- src/empty.rt:24:5
 free-slots-requires : tie.Need-free-slots-requires

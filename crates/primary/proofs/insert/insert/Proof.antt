@@ -2,7 +2,7 @@ use borrow.Author.Needs.{needs}
 use Rattle.primary.proofs.insert.insert.Statement.{statement}
 use Rattle.primary.specs.Insert.{entered, insertLive, insertSlot, tableInsert♯}
 use borrow.Author.Tests.{le-leb, lt-leb}
-use Rattle.table.specs.Arms.{sum}
+use Rattle.table.specs.Weights.{sum}
 use Rattle.primary.proofs.insert.insert.Tie as tie
 use Rattle.primary.proofs.insert.insert.Reads as reads
 use Rattle.primary.proofs.insert.insert.Lts as lts

@@ -9,9 +9,9 @@ use borrow.Author.Needs.{needs}
 use Rattle.primary_build.proofs.collect.collect.Reads as collect
 use Rattle.primary_build.proofs.collect.collect.Kinds as collect-kinds
 use Rattle.primary_build.proofs.collect.+collect.Lts-collect as collect-lts
-use Rattle.table.proofs.primary.Primary.is_leaf.Reads as is-leaf-reads
-use Rattle.table.proofs.primary.Primary.slot.Reads as slot-reads
-use Rattle.table.proofs.primary.PrimaryRecord.at.Reads as at-reads
+use Rattle.nodes.proofs.primary.Primary.is_leaf.Reads as is-leaf-reads
+use Rattle.nodes.proofs.primary.Primary.slot.Reads as slot-reads
+use Rattle.nodes.proofs.primary.PrimaryRecord.at.Reads as at-reads
 use Rattle.table.proofs.runs.put_run.Reads as put-run-reads
 
 abbrev μ-collect : Measures 1 collect-kinds.ps ℕ

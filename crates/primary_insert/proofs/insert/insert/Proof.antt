@@ -7,9 +7,9 @@ use Rattle.primary_insert.proofs.insert.insert.Reads as reads
 use Rattle.primary_insert.proofs.insert.insert.Lts as lts
 use Rattle.primary_insert.proofs.insert.insert_beneath.Reads as insert-beneath-reads
 use Rattle.table.proofs.header.capacity.Reads as capacity-reads
-use Rattle.table.proofs.primary.PrimaryArm.at.Reads as at-reads
-use Rattle.table.proofs.primary.PrimaryArm.leaf.Reads as leaf-reads
-use Rattle.table.proofs.primary.PrimaryArm.put.Reads as put-reads
+use Rattle.nodes.proofs.primary.PrimaryArm.at.Reads as at-reads
+use Rattle.nodes.proofs.primary.PrimaryArm.leaf.Reads as leaf-reads
+use Rattle.nodes.proofs.primary.PrimaryArm.put.Reads as put-reads
 use Rattle.twofold.proofs.levels.top.Reads as top-reads
 
 -- src/insert.rt:100:9

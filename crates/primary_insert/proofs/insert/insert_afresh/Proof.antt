@@ -7,8 +7,8 @@ use Rattle.primary_insert.proofs.insert.insert_afresh.Reads as reads
 use Rattle.primary_insert.proofs.insert.insert_afresh.Lts as lts
 use Rattle.primary_build.proofs.build.rebuild.Reads as rebuild-reads
 use Rattle.primary_insert.proofs.main_tree.put.Reads as main-tree-put-reads
-use Rattle.table.proofs.primary.PrimaryArm.at.Reads as at-reads
-use Rattle.table.proofs.primary.PrimaryArm.put.Reads as primary-PrimaryArm-put-reads
+use Rattle.nodes.proofs.primary.PrimaryArm.at.Reads as at-reads
+use Rattle.nodes.proofs.primary.PrimaryArm.put.Reads as primary-PrimaryArm-put-reads
 
 -- src/insert.rt:37:9
 put-requires : tie.Need-put-requires

@@ -6,9 +6,9 @@ use Rattle.primary_insert.proofs.insert.insert_at_leaf.Reads as reads
 use Rattle.primary_insert.proofs.insert.insert_at_leaf.Lts as lts
 use Rattle.primary_insert.proofs.main_tree.split.Reads as split-reads
 use Rattle.secondary_update.proofs.insert.insert.Reads as insert-reads
-use Rattle.table.proofs.primary.Primary.slot.Reads as slot-reads
-use Rattle.table.proofs.primary.PrimaryRecord.put_auxiliary.Reads as put-auxiliary-reads
-use Rattle.table.proofs.secondary.SecondaryArm.leaf.Reads as leaf-reads
+use Rattle.nodes.proofs.primary.Primary.slot.Reads as slot-reads
+use Rattle.nodes.proofs.primary.PrimaryRecord.put_auxiliary.Reads as put-auxiliary-reads
+use Rattle.nodes.proofs.secondary.SecondaryArm.leaf.Reads as leaf-reads
 use Rattle.table.proofs.slots.mark_at.Reads as mark-at-reads
 
 -- src/insert.rt:25:9

@@ -15,12 +15,12 @@ use Rattle.primary_insert.proofs.main_tree.put.Lts as lts
 use Rattle.geometry.proofs.Mark.below_x.Reads as below-x-reads
 use Rattle.primary_insert.proofs.main_tree.child_place.Reads as child-place-reads
 use Rattle.primary_insert.proofs.main_tree.split.Reads as split-reads
-use Rattle.table.proofs.primary.Primary.is_leaf.Reads as is-leaf-reads
-use Rattle.table.proofs.primary.Primary.slot.Reads as slot-reads
-use Rattle.table.proofs.primary.PrimaryArm.at.Reads as primary-PrimaryArm-at-reads
-use Rattle.table.proofs.primary.PrimaryArm.grown.Reads as grown-reads
-use Rattle.table.proofs.primary.PrimaryArm.put.Reads as put-reads
-use Rattle.table.proofs.primary.PrimaryRecord.at.Reads as primary-PrimaryRecord-at-reads
+use Rattle.nodes.proofs.primary.Primary.is_leaf.Reads as is-leaf-reads
+use Rattle.nodes.proofs.primary.Primary.slot.Reads as slot-reads
+use Rattle.nodes.proofs.primary.PrimaryArm.at.Reads as primary-PrimaryArm-at-reads
+use Rattle.nodes.proofs.primary.PrimaryArm.grown.Reads as grown-reads
+use Rattle.nodes.proofs.primary.PrimaryArm.put.Reads as put-reads
+use Rattle.nodes.proofs.primary.PrimaryRecord.at.Reads as primary-PrimaryRecord-at-reads
 use Rattle.table.proofs.slots.mark_at.Reads as mark-at-reads
 use Rattle.table.proofs.weights.disagree.Reads as disagree-reads
 

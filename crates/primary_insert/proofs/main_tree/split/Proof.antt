@@ -6,11 +6,11 @@ use Rattle.primary_insert.proofs.main_tree.split.Tie as tie
 use Rattle.primary_insert.proofs.main_tree.split.Reads as reads
 use Rattle.primary_insert.proofs.main_tree.split.Lts as lts
 use Rattle.geometry.proofs.Mark.below_x.Reads as below-x-reads
-use Rattle.table.proofs.primary.Primary.slot.Reads as slot-reads
-use Rattle.table.proofs.primary.PrimaryArm.leaf.Reads as leaf-reads
-use Rattle.table.proofs.primary.PrimaryArm.over.Reads as over-reads
-use Rattle.table.proofs.primary.PrimaryArm.put.Reads as primary-PrimaryArm-put-reads
-use Rattle.table.proofs.primary.PrimaryRecord.put.Reads as primary-PrimaryRecord-put-reads
+use Rattle.nodes.proofs.primary.Primary.slot.Reads as slot-reads
+use Rattle.nodes.proofs.primary.PrimaryArm.leaf.Reads as leaf-reads
+use Rattle.nodes.proofs.primary.PrimaryArm.over.Reads as over-reads
+use Rattle.nodes.proofs.primary.PrimaryArm.put.Reads as primary-PrimaryArm-put-reads
+use Rattle.nodes.proofs.primary.PrimaryRecord.put.Reads as primary-PrimaryRecord-put-reads
 use Rattle.table.proofs.slots.mark_at.Reads as mark-at-reads
 
 -- src/main_tree.rt:39:9

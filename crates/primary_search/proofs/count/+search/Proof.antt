@@ -14,7 +14,7 @@ use Rattle.primary_search.proofs.count.search.Kinds as search-kinds
 use Rattle.primary_search.proofs.count.+search.Lts-search as search-lts
 use Rattle.primary_search.proofs.count.opens.Reads as opens-reads
 use Rattle.primary_search.proofs.count.seen.Reads as seen-reads
-use Rattle.table.proofs.primary.PrimaryRecord.at.Reads as at-reads
+use Rattle.nodes.proofs.primary.PrimaryRecord.at.Reads as at-reads
 use Rattle.table.proofs.tally.visits.Reads as visits-reads
 use Rattle.twofold.proofs.levels.deeper.Reads as deeper-reads
 

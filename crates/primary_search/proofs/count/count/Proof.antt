@@ -10,7 +10,7 @@ use Rattle.primary_search.proofs.count.opens.Reads as opens-reads
 use Rattle.primary_search.proofs.count.search.Reads as search-reads
 use Rattle.primary_search.proofs.count.seen.Reads as seen-reads
 use Rattle.table.proofs.header.capacity.Reads as capacity-reads
-use Rattle.table.proofs.primary.PrimaryArm.at.Reads as at-reads
+use Rattle.nodes.proofs.primary.PrimaryArm.at.Reads as at-reads
 use Rattle.twofold.proofs.levels.deeper.Reads as deeper-reads
 use Rattle.twofold.proofs.levels.top.Reads as top-reads
 

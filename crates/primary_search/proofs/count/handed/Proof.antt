@@ -7,9 +7,9 @@ use Rattle.primary_search.proofs.count.handed.Reads as reads
 use Rattle.primary_search.proofs.count.handed.Lts as lts
 use Rattle.geometry.proofs.Box.holds.Reads as holds-reads
 use Rattle.secondary_search.proofs.count.count.Reads as count-reads
-use Rattle.table.proofs.primary.Primary.is_leaf.Reads as is-leaf-reads
-use Rattle.table.proofs.primary.Primary.slot.Reads as slot-reads
-use Rattle.table.proofs.primary.PrimaryRecord.auxiliary.Reads as auxiliary-reads
+use Rattle.nodes.proofs.primary.Primary.is_leaf.Reads as is-leaf-reads
+use Rattle.nodes.proofs.primary.Primary.slot.Reads as slot-reads
+use Rattle.nodes.proofs.primary.PrimaryRecord.auxiliary.Reads as auxiliary-reads
 use Rattle.table.proofs.slots.mark_at.Reads as mark-at-reads
 use Rattle.table.proofs.tally.visit.Reads as visit-reads
 

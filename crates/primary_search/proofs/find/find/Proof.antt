@@ -6,7 +6,7 @@ use Rattle.primary_search.proofs.find.find.Tie as tie
 use Rattle.primary_search.proofs.find.find.Reads as reads
 use Rattle.primary_search.proofs.find.find.Lts as lts
 use Rattle.primary_search.proofs.find.find_beneath.Reads as find-beneath-reads
-use Rattle.table.proofs.primary.PrimaryArm.at.Reads as at-reads
+use Rattle.nodes.proofs.primary.PrimaryArm.at.Reads as at-reads
 
 -- src/find.rt:52:9
 at-requires : tie.Need-at-requires

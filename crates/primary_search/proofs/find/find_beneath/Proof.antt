@@ -11,7 +11,7 @@ use Rattle.primary_search.proofs.find.find_beneath.Reads as reads
 use Rattle.primary_search.proofs.find.find_beneath.Lts as lts
 use Rattle.geometry.proofs.Mark.below_x.Reads as below-x-reads
 use Rattle.geometry.proofs.Mark.same.Reads as same-reads
-use Rattle.table.proofs.primary.PrimaryRecord.at.Reads as at-reads
+use Rattle.nodes.proofs.primary.PrimaryRecord.at.Reads as at-reads
 use Rattle.table.proofs.slots.mark_at.Reads as mark-at-reads
 
 positive : (n : ℕ) → 0 < n → n ≡ 0 → ⊥

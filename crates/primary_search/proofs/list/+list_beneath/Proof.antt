@@ -15,10 +15,10 @@ use Rattle.geometry.proofs.Box.clear_x.Reads as clear-x-reads
 use Rattle.geometry.proofs.Box.inside_x.Reads as inside-x-reads
 use Rattle.primary_search.proofs.list.list_leaf.Reads as list-leaf-reads
 use Rattle.secondary_search.proofs.list.list.Reads as list-reads
-use Rattle.table.proofs.primary.Primary.is_leaf.Reads as is-leaf-reads
-use Rattle.table.proofs.primary.Primary.slot.Reads as slot-reads
-use Rattle.table.proofs.primary.PrimaryRecord.at.Reads as at-reads
-use Rattle.table.proofs.primary.PrimaryRecord.auxiliary.Reads as auxiliary-reads
+use Rattle.nodes.proofs.primary.Primary.is_leaf.Reads as is-leaf-reads
+use Rattle.nodes.proofs.primary.Primary.slot.Reads as slot-reads
+use Rattle.nodes.proofs.primary.PrimaryRecord.at.Reads as at-reads
+use Rattle.nodes.proofs.primary.PrimaryRecord.auxiliary.Reads as auxiliary-reads
 use Rattle.table.proofs.tally.visit.Reads as visit-reads
 use Rattle.table.proofs.tally.visits.Reads as visits-reads
 use Rattle.twofold.proofs.levels.deeper.Reads as deeper-reads

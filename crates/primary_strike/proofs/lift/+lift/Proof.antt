@@ -11,10 +11,10 @@ use Rattle.primary_strike.proofs.lift.lift.Reads as lift
 use Rattle.primary_strike.proofs.lift.lift.Kinds as lift-kinds
 use Rattle.primary_strike.proofs.lift.+lift.Lts-lift as lift-lts
 use Rattle.secondary_build.proofs.copy.copy.Reads as copy-reads
-use Rattle.table.proofs.primary.Primary.is_leaf.Reads as is-leaf-reads
-use Rattle.table.proofs.primary.Primary.slot.Reads as slot-reads
-use Rattle.table.proofs.primary.PrimaryRecord.at.Reads as at-reads
-use Rattle.table.proofs.primary.PrimaryRecord.auxiliary.Reads as auxiliary-reads
+use Rattle.nodes.proofs.primary.Primary.is_leaf.Reads as is-leaf-reads
+use Rattle.nodes.proofs.primary.Primary.slot.Reads as slot-reads
+use Rattle.nodes.proofs.primary.PrimaryRecord.at.Reads as at-reads
+use Rattle.nodes.proofs.primary.PrimaryRecord.auxiliary.Reads as auxiliary-reads
 use Rattle.twofold.proofs.levels.deeper.Reads as deeper-reads
 
 abbrev μ-lift : Measures 1 lift-kinds.ps ℕ

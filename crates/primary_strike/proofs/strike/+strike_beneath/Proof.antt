@@ -20,8 +20,8 @@ use Rattle.primary_strike.proofs.strike.lifted.Reads as lifted-reads
 use Rattle.primary_strike.proofs.strike.strike_afresh.Reads as strike-afresh-reads
 use Rattle.primary_strike.proofs.strike.strike_auxiliary.Reads as strike-auxiliary-reads
 use Rattle.secondary_update.proofs.strike.renamed.Reads as renamed-reads
-use Rattle.table.proofs.primary.Primary.slot.Reads as slot-reads
-use Rattle.table.proofs.primary.PrimaryRecord.at.Reads as at-reads
+use Rattle.nodes.proofs.primary.Primary.slot.Reads as slot-reads
+use Rattle.nodes.proofs.primary.PrimaryRecord.at.Reads as at-reads
 use Rattle.table.proofs.slots.mark_at.Reads as mark-at-reads
 use Rattle.table.proofs.weights.balanced.Reads as balanced-reads
 use Rattle.table.proofs.weights.disagree.Reads as disagree-reads

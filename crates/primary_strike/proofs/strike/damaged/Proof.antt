@@ -3,7 +3,7 @@ use Rattle.primary_strike.proofs.strike.damaged.Statement.{statement}
 use Rattle.primary_strike.proofs.strike.damaged.Tie as tie
 use Rattle.primary_strike.proofs.strike.damaged.Reads as reads
 use Rattle.primary_strike.proofs.strike.damaged.Lts as lts
-use Rattle.table.proofs.primary.PrimaryArm.none.Reads as none-reads
+use Rattle.nodes.proofs.primary.PrimaryArm.none.Reads as none-reads
 
 -- src/strike.rt:44:9
 none-requires : tie.Need-none-requires

@@ -9,9 +9,9 @@ use Rattle.primary_strike.proofs.strike.join.Reads as reads
 use Rattle.primary_strike.proofs.strike.join.Lts as lts
 use Rattle.primary_strike.proofs.strike.answer.Reads as answer-reads
 use Rattle.primary_strike.proofs.strike.damaged.Reads as damaged-reads
-use Rattle.table.proofs.primary.PrimaryArm.over.Reads as over-reads
-use Rattle.table.proofs.primary.PrimaryRecord.put.Reads as put-reads
-use Rattle.table.proofs.primary.PrimaryRecord.put_auxiliary.Reads as put-auxiliary-reads
+use Rattle.nodes.proofs.primary.PrimaryArm.over.Reads as over-reads
+use Rattle.nodes.proofs.primary.PrimaryRecord.put.Reads as put-reads
+use Rattle.nodes.proofs.primary.PrimaryRecord.put_auxiliary.Reads as put-auxiliary-reads
 
 -- src/strike.rt:92:9
 damaged-requires : tie.Need-damaged-requires

@@ -7,10 +7,10 @@ use Rattle.primary_strike.proofs.strike.strike.Reads as reads
 use Rattle.primary_strike.proofs.strike.strike.Lts as lts
 use Rattle.primary_strike.proofs.strike.strike_beneath.Reads as strike-beneath-reads
 use Rattle.table.proofs.header.capacity.Reads as capacity-reads
-use Rattle.table.proofs.primary.Primary.is_leaf.Reads as is-leaf-reads
-use Rattle.table.proofs.primary.PrimaryArm.at.Reads as at-reads
-use Rattle.table.proofs.primary.PrimaryArm.none.Reads as none-reads
-use Rattle.table.proofs.primary.PrimaryArm.put.Reads as put-reads
+use Rattle.nodes.proofs.primary.Primary.is_leaf.Reads as is-leaf-reads
+use Rattle.nodes.proofs.primary.PrimaryArm.at.Reads as at-reads
+use Rattle.nodes.proofs.primary.PrimaryArm.none.Reads as none-reads
+use Rattle.nodes.proofs.primary.PrimaryArm.put.Reads as put-reads
 use Rattle.twofold.proofs.levels.top.Reads as top-reads
 
 -- src/strike.rt:157:9

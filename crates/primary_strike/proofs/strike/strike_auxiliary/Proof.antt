@@ -7,7 +7,7 @@ use Rattle.primary_strike.proofs.strike.strike_auxiliary.Tie as tie
 use Rattle.primary_strike.proofs.strike.strike_auxiliary.Reads as reads
 use Rattle.primary_strike.proofs.strike.strike_auxiliary.Lts as lts
 use Rattle.secondary_update.proofs.strike.strike.Reads as strike-reads
-use Rattle.table.proofs.primary.PrimaryRecord.auxiliary.Reads as auxiliary-reads
+use Rattle.nodes.proofs.primary.PrimaryRecord.auxiliary.Reads as auxiliary-reads
 
 -- src/strike.rt:74:9
 auxiliary-requires : tie.Need-auxiliary-requires

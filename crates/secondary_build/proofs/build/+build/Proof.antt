@@ -10,8 +10,8 @@ use Rattle.secondary_build.proofs.build.build.Kinds as build-kinds
 use Rattle.secondary_build.proofs.build.+build.Lts-build as build-lts
 use Rattle.secondary_build.proofs.build.run_leaf.Reads as run-leaf-reads
 use Rattle.table.proofs.runs.run.Reads as run-reads
-use Rattle.table.proofs.secondary.SecondaryArm.over.Reads as over-reads
-use Rattle.table.proofs.secondary.SecondaryRecord.put.Reads as put-reads
+use Rattle.nodes.proofs.secondary.SecondaryArm.over.Reads as over-reads
+use Rattle.nodes.proofs.secondary.SecondaryRecord.put.Reads as put-reads
 
 abbrev μ-build : Measures 1 build-kinds.ps ℕ
 μ-build κs a = a .1 .1 .1 .1 .0

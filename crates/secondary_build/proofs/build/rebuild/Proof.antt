@@ -8,7 +8,7 @@ use Rattle.secondary_build.proofs.build.rebuild.Lts as lts
 use Rattle.secondary_build.proofs.build.build.Reads as build-reads
 use Rattle.secondary_build.proofs.collect.collect.Reads as collect-reads
 use Rattle.table.proofs.header.capacity.Reads as capacity-reads
-use Rattle.table.proofs.secondary.SecondaryArm.none.Reads as none-reads
+use Rattle.nodes.proofs.secondary.SecondaryArm.none.Reads as none-reads
 
 -- src/build.rt:42:9
 capacity-requires : tie.Need-capacity-requires

@@ -5,7 +5,7 @@ use Rattle.secondary_build.proofs.build.run_leaf.Tie as tie
 use Rattle.secondary_build.proofs.build.run_leaf.Reads as reads
 use Rattle.secondary_build.proofs.build.run_leaf.Lts as lts
 use Rattle.table.proofs.runs.run.Reads as run-reads
-use Rattle.table.proofs.secondary.SecondaryArm.leaf.Reads as leaf-reads
+use Rattle.nodes.proofs.secondary.SecondaryArm.leaf.Reads as leaf-reads
 use Rattle.table.proofs.slots.mark_at.Reads as mark-at-reads
 
 -- src/build.rt:17:9

@@ -10,9 +10,9 @@ use Rattle.secondary_build.proofs.collect.collect.Reads as collect
 use Rattle.secondary_build.proofs.collect.collect.Kinds as collect-kinds
 use Rattle.secondary_build.proofs.collect.+collect.Lts-collect as collect-lts
 use Rattle.table.proofs.runs.put_run.Reads as put-run-reads
-use Rattle.table.proofs.secondary.Secondary.is_leaf.Reads as is-leaf-reads
-use Rattle.table.proofs.secondary.Secondary.slot.Reads as slot-reads
-use Rattle.table.proofs.secondary.SecondaryRecord.at.Reads as at-reads
+use Rattle.nodes.proofs.secondary.Secondary.is_leaf.Reads as is-leaf-reads
+use Rattle.nodes.proofs.secondary.Secondary.slot.Reads as slot-reads
+use Rattle.nodes.proofs.secondary.SecondaryRecord.at.Reads as at-reads
 
 abbrev μ-collect : Measures 1 collect-kinds.ps ℕ
 μ-collect κs a = a .1 .1 .1 .1 .1 .1 .0

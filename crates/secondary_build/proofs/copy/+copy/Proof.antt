@@ -8,10 +8,10 @@ use borrow.Author.Needs.{needs}
 use Rattle.secondary_build.proofs.copy.copy.Reads as copy
 use Rattle.secondary_build.proofs.copy.copy.Kinds as copy-kinds
 use Rattle.secondary_build.proofs.copy.+copy.Lts-copy as copy-lts
-use Rattle.table.proofs.secondary.Secondary.is_leaf.Reads as is-leaf-reads
-use Rattle.table.proofs.secondary.Secondary.slot.Reads as slot-reads
-use Rattle.table.proofs.secondary.SecondaryRecord.at.Reads as at-reads
-use Rattle.table.proofs.secondary.SecondaryRecord.put.Reads as put-reads
+use Rattle.nodes.proofs.secondary.Secondary.is_leaf.Reads as is-leaf-reads
+use Rattle.nodes.proofs.secondary.Secondary.slot.Reads as slot-reads
+use Rattle.nodes.proofs.secondary.SecondaryRecord.at.Reads as at-reads
+use Rattle.nodes.proofs.secondary.SecondaryRecord.put.Reads as put-reads
 
 abbrev μ-copy : Measures 1 copy-kinds.ps ℕ
 μ-copy κs a = a .1 .1 .1 .1 .0

@@ -14,7 +14,7 @@ use Rattle.secondary_search.proofs.count.search.Kinds as search-kinds
 use Rattle.secondary_search.proofs.count.+search.Lts-search as search-lts
 use Rattle.secondary_search.proofs.count.opens.Reads as opens-reads
 use Rattle.secondary_search.proofs.count.seen.Reads as seen-reads
-use Rattle.table.proofs.secondary.SecondaryRecord.at.Reads as at-reads
+use Rattle.nodes.proofs.secondary.SecondaryRecord.at.Reads as at-reads
 use Rattle.table.proofs.tally.visits.Reads as visits-reads
 
 positive : (n : ℕ) → 0 < n → n ≡ 0 → ⊥

@@ -12,8 +12,8 @@ use Rattle.secondary_search.proofs.list.+list_beneath.Lts-list_beneath 
 use Rattle.geometry.proofs.Box.clear_y.Reads as clear-y-reads
 use Rattle.geometry.proofs.Box.inside_y.Reads as inside-y-reads
 use Rattle.secondary_search.proofs.list.walk.Reads as walk-reads
-use Rattle.table.proofs.secondary.Secondary.slot.Reads as slot-reads
-use Rattle.table.proofs.secondary.SecondaryRecord.at.Reads as at-reads
+use Rattle.nodes.proofs.secondary.Secondary.slot.Reads as slot-reads
+use Rattle.nodes.proofs.secondary.SecondaryRecord.at.Reads as at-reads
 use Rattle.table.proofs.tally.visit.Reads as visit-reads
 use Rattle.table.proofs.tally.visits.Reads as visits-reads
 

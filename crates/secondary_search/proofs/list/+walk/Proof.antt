@@ -9,9 +9,9 @@ use Rattle.secondary_search.specs.List.{walkLeaf, walkNode, walkRecord, 
 use Rattle.secondary_search.proofs.list.walk.Reads as walk
 use Rattle.secondary_search.proofs.list.walk.Kinds as walk-kinds
 use Rattle.secondary_search.proofs.list.+walk.Lts-walk as walk-lts
-use Rattle.table.proofs.secondary.Secondary.is_leaf.Reads as is-leaf-reads
-use Rattle.table.proofs.secondary.Secondary.slot.Reads as slot-reads
-use Rattle.table.proofs.secondary.SecondaryRecord.at.Reads as at-reads
+use Rattle.nodes.proofs.secondary.Secondary.is_leaf.Reads as is-leaf-reads
+use Rattle.nodes.proofs.secondary.Secondary.slot.Reads as slot-reads
+use Rattle.nodes.proofs.secondary.SecondaryRecord.at.Reads as at-reads
 use Rattle.table.proofs.slots.mark_at.Reads as mark-at-reads
 use Rattle.table.proofs.slots.put_listed.Reads as put-listed-reads
 use Rattle.table.proofs.tally.found.Reads as found-reads

@@ -19,12 +19,12 @@ use Rattle.secondary_update.proofs.insert.afresh.Reads as afresh-reads
 use Rattle.secondary_update.proofs.insert.child_place.Reads as child-place-reads
 use Rattle.secondary_update.proofs.insert.split.Reads as split-reads
 use Rattle.secondary_update.proofs.insert.unsteady.Reads as unsteady-reads
-use Rattle.table.proofs.secondary.Secondary.is_leaf.Reads as is-leaf-reads
-use Rattle.table.proofs.secondary.Secondary.slot.Reads as slot-reads
-use Rattle.table.proofs.secondary.SecondaryArm.at.Reads as secondary-SecondaryArm-at-reads
-use Rattle.table.proofs.secondary.SecondaryArm.grown.Reads as grown-reads
-use Rattle.table.proofs.secondary.SecondaryArm.put.Reads as put-reads
-use Rattle.table.proofs.secondary.SecondaryRecord.at.Reads as secondary-SecondaryRecord-at-reads
+use Rattle.nodes.proofs.secondary.Secondary.is_leaf.Reads as is-leaf-reads
+use Rattle.nodes.proofs.secondary.Secondary.slot.Reads as slot-reads
+use Rattle.nodes.proofs.secondary.SecondaryArm.at.Reads as secondary-SecondaryArm-at-reads
+use Rattle.nodes.proofs.secondary.SecondaryArm.grown.Reads as grown-reads
+use Rattle.nodes.proofs.secondary.SecondaryArm.put.Reads as put-reads
+use Rattle.nodes.proofs.secondary.SecondaryRecord.at.Reads as secondary-SecondaryRecord-at-reads
 use Rattle.table.proofs.slots.mark_at.Reads as mark-at-reads
 use Rattle.table.proofs.weights.disagree.Reads as disagree-reads
 

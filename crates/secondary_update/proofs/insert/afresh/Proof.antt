@@ -6,8 +6,8 @@ use Rattle.secondary_update.proofs.insert.afresh.Tie as tie
 use Rattle.secondary_update.proofs.insert.afresh.Reads as reads
 use Rattle.secondary_update.proofs.insert.afresh.Lts as lts
 use Rattle.secondary_build.proofs.build.rebuild.Reads as rebuild-reads
-use Rattle.table.proofs.secondary.SecondaryArm.at.Reads as at-reads
-use Rattle.table.proofs.secondary.SecondaryArm.put.Reads as put-reads
+use Rattle.nodes.proofs.secondary.SecondaryArm.at.Reads as at-reads
+use Rattle.nodes.proofs.secondary.SecondaryArm.put.Reads as put-reads
 
 -- src/insert.rt:68:9
 returns : tie.Need-returns

@@ -5,11 +5,11 @@ use Rattle.secondary_update.proofs.insert.split.Tie as tie
 use Rattle.secondary_update.proofs.insert.split.Reads as reads
 use Rattle.secondary_update.proofs.insert.split.Lts as lts
 use Rattle.geometry.proofs.Mark.below_y.Reads as below-y-reads
-use Rattle.table.proofs.secondary.Secondary.slot.Reads as slot-reads
-use Rattle.table.proofs.secondary.SecondaryArm.leaf.Reads as leaf-reads
-use Rattle.table.proofs.secondary.SecondaryArm.over.Reads as over-reads
-use Rattle.table.proofs.secondary.SecondaryArm.put.Reads as secondary-SecondaryArm-put-reads
-use Rattle.table.proofs.secondary.SecondaryRecord.put.Reads as secondary-SecondaryRecord-put-reads
+use Rattle.nodes.proofs.secondary.Secondary.slot.Reads as slot-reads
+use Rattle.nodes.proofs.secondary.SecondaryArm.leaf.Reads as leaf-reads
+use Rattle.nodes.proofs.secondary.SecondaryArm.over.Reads as over-reads
+use Rattle.nodes.proofs.secondary.SecondaryArm.put.Reads as secondary-SecondaryArm-put-reads
+use Rattle.nodes.proofs.secondary.SecondaryRecord.put.Reads as secondary-SecondaryRecord-put-reads
 use Rattle.table.proofs.slots.mark_at.Reads as mark-at-reads
 
 -- src/insert.rt:50:9

@@ -1,7 +1,7 @@
 use borrow.Author.Needs.{needs}
 use Rattle.secondary_update.proofs.insert.unsteady.Statement.{statement}
 use Rattle.secondary_update.specs.Node.{balanced}
-use Rattle.table.specs.Arms.{sum}
+use Rattle.table.specs.Weights.{sum}
 use Rattle.secondary_update.specs.Insert.{unsteady♯}
 use Rattle.secondary_update.proofs.insert.unsteady.Tie as tie
 use Rattle.secondary_update.proofs.insert.unsteady.Reads as reads

@@ -6,8 +6,8 @@ use Rattle.secondary_update.proofs.node.join.Reads as reads
 use Rattle.secondary_update.proofs.node.join.Lts as lts
 use Rattle.secondary_build.proofs.build.rebuild.Reads as rebuild-reads
 use Rattle.secondary_update.proofs.node.both.Reads as both-reads
-use Rattle.table.proofs.secondary.SecondaryArm.over.Reads as over-reads
-use Rattle.table.proofs.secondary.SecondaryRecord.put.Reads as put-reads
+use Rattle.nodes.proofs.secondary.SecondaryArm.over.Reads as over-reads
+use Rattle.nodes.proofs.secondary.SecondaryRecord.put.Reads as put-reads
 use Rattle.table.proofs.weights.balanced.Reads as balanced-reads
 
 -- src/node.rt:33:5

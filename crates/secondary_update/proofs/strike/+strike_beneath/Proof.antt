@@ -17,8 +17,8 @@ use Rattle.secondary_update.proofs.node.join.Reads as join-reads
 use Rattle.secondary_update.proofs.strike.answer.Reads as answer-reads
 use Rattle.secondary_update.proofs.strike.damaged.Reads as damaged-reads
 use Rattle.secondary_update.proofs.strike.renamed.Reads as renamed-reads
-use Rattle.table.proofs.secondary.Secondary.slot.Reads as slot-reads
-use Rattle.table.proofs.secondary.SecondaryRecord.at.Reads as at-reads
+use Rattle.nodes.proofs.secondary.Secondary.slot.Reads as slot-reads
+use Rattle.nodes.proofs.secondary.SecondaryRecord.at.Reads as at-reads
 use Rattle.table.proofs.slots.mark_at.Reads as mark-at-reads
 use Rattle.table.proofs.weights.balanced.Reads as balanced-reads
 use Rattle.table.proofs.weights.disagree.Reads as disagree-reads

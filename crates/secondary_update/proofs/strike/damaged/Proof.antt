@@ -3,7 +3,7 @@ use Rattle.secondary_update.proofs.strike.damaged.Statement.{statement}
 use Rattle.secondary_update.proofs.strike.damaged.Tie as tie
 use Rattle.secondary_update.proofs.strike.damaged.Reads as reads
 use Rattle.secondary_update.proofs.strike.damaged.Lts as lts
-use Rattle.table.proofs.secondary.SecondaryArm.none.Reads as none-reads
+use Rattle.nodes.proofs.secondary.SecondaryArm.none.Reads as none-reads
 
 -- src/strike.rt:37:9
 none-requires : tie.Need-none-requires

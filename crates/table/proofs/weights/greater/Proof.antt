@@ -1,5 +1,5 @@
 use Rattle.table.proofs.weights.greater.Statement.{statement}
-use Rattle.table.specs.Arms.{greater}
+use Rattle.table.specs.Weights.{greater}
 use borrow.Author.Tests.{le-ltb, lt-ltb}
 use Rattle.table.proofs.weights.greater.Tie as tie
 use Rattle.table.proofs.weights.greater.Reads as reads

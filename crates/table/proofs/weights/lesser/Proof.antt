@@ -1,6 +1,6 @@
 use Rattle.table.proofs.weights.lesser.Statement.{statement}
 use borrow.Author.Tests.{le-ltb, lt-ltb}
-use Rattle.table.specs.Arms.{lesser}
+use Rattle.table.specs.Weights.{lesser}
 use Rattle.table.proofs.weights.lesser.Tie as tie
 use Rattle.table.proofs.weights.lesser.Reads as reads
 use Rattle.table.proofs.weights.lesser.Lts as lts

@@ -1,6 +1,6 @@
 use borrow.Author.Needs.{needs}
 use Rattle.table.proofs.weights.sum.Statement.{statement}
-use Rattle.table.specs.Arms.{sum}
+use Rattle.table.specs.Weights.{sum}
 use Rattle.table.proofs.weights.sum.Tie as tie
 use Rattle.table.proofs.weights.sum.Reads as reads
 use Rattle.table.proofs.weights.sum.Lts as lts

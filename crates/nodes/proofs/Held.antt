@@ -1,0 +1,233 @@
+-- Trees that words hold, each slot once: kept by changes elsewhere, and made of two by the record of a node over them. For any axis and any places of
+-- records that form a region. Assumes nothing.
+use Prim.Native.Nat.{ℕ, zero, suc, _+_, _*_, _-_, _%_, _≤_, _<_}
+use mathlib.Core.Path.{_≡_, refl, sym, ap, subst, _∙_}
+use mathlib.Core.List.{List, [], _∷_, _++_}
+use mathlib.Core.Logic.{_⊎_, inl, inr}
+use native.Mathlib.Omega.{arith}
+use lib.Dec.{eqb}
+use lib.ListN.{length, getD, length-append}
+use lib.Seq.{getD-append-add}
+use borrow.Author.Tests.{eq-eqb, ne-eqb, eqb-true, eqb-false}
+use Rattle.model.specs.Axis.{Axis}
+use Rattle.model.specs.Sheet.{Mark, Box}
+use Rattle.model.specs.Tree.{Tree, leaf, node, weight, marks, least, greatest}
+use Rattle.model.proofs.Logic.{by-cases}
+use Rattle.model.proofs.Lists.{countIf-append}
+use Rattle.model.proofs.Tree.{weight-marks, marks-pos, marks-least}
+use Rattle.table.specs.Layout.{runPlace}
+use Rattle.table.specs.Marks.{slotMark}
+use Rattle.nodes.specs.Arms.{Arm, arm, leafNumber, innerNumber, arms, leafArm, overArm, recordAt, putRecord}
+use Rattle.table.specs.Weights.{sum}
+use Rattle.nodes.specs.Holds.{armOf, Holds, timesIn, times, Held}
+use Rattle.nodes.proofs.Frames.{Region, Frame, frame-run, frame-record, frame-mark, putRecord-frame, putRecord-same}
+
+module _ {I : Type 0} where
+  pub times-node : (s : ℕ) (i : I) (l r : Tree ℕ I) → times s (node i l r) ≡ times s l + times s r
+  times-node s i l r = countIf-append (eqb s) (marks l) (marks r)
+
+  pub times-least : (t : Tree ℕ I) → 0 < times (least t) t
+  times-least (leaf s) = rw (eq-eqb s s refl) (omega arith)
+  times-least (node i l r) = omega (arith, times-node (least l) i l r, times-least l)
+
+-- A list of slots below C, each once, has at most C.
+total : ℕ → List ℕ → ℕ
+total zero l = 0
+total (suc n) l = timesIn n l + total n l
+
+total-none : (n : ℕ) → total n [] ≡ 0
+unfolding total
+total-none zero = refl
+total-none (suc n) = omega (arith, total-none n)
+
+total-past : (n s : ℕ) (l : List ℕ) → n ≤ s → total n (s ∷ l) ≡ total n l
+unfolding total
+total-past zero s l h = refl
+total-past (suc n) s l h = rw (ne-eqb n s (omega arith), total-past n s l (omega arith)) (omega arith)
+
+total-within : (n s : ℕ) (l : List ℕ) → s < n → total n (s ∷ l) ≡ 1 + total n l
+unfolding total
+total-within zero s l h = absurd (omega arith)
+total-within (suc n) s l h =
+    by-cases (eqb n s)
+    (λ t. let e = eqb-true n s t in rw (t, total-past n s l (omega arith)) (omega arith))
+    (λ f. let e = eqb-false n s f in rw (f, total-within n s l (omega arith)) (omega arith))
+
+total-length : (n : ℕ) (l : List ℕ) → ((s : ℕ) → 0 < timesIn s l → s < n) → total n l ≡ length l
+total-length n [] h = total-none n
+total-length n (s ∷ l) h =
+    let here : s < n = h s (rw (eq-eqb s s refl) (omega arith)) in
+    omega (arith, total-within n s l here, total-length n l (λ q k. h q (omega arith)))
+
+total-once : (n : ℕ) (l : List ℕ) → ((s : ℕ) → timesIn s l ≤ 1) → total n l ≤ n
+unfolding total
+total-once zero l h = omega arith
+total-once (suc n) l h = omega (arith, h n, total-once n l h)
+
+pub once-length : (n : ℕ) (l : List ℕ) → ((s : ℕ) → timesIn s l ≤ 1) → ((s : ℕ) → 0 < timesIn s l → s < n) → length l ≤ n
+once-length n l once within = omega (arith, total-length n l within, total-once n l once)
+
+module _ {I : Type 0} {A : Axis Mark Box} {f : ℕ → Mark} {place : ℕ → ℕ} {C : ℕ} where
+  pub held-weight : {xs : List ℕ} {t : Tree ℕ I} → Held A f place C xs t → weight t ≤ C
+  held-weight {t = t} h = rw (weight-marks t) (once-length C (marks t) (h .once) (h .within))
+
+  pub held-least : {xs : List ℕ} {t : Tree ℕ I} → Held A f place C xs t → least t < C
+  held-least {t = t} h = h .within (least t) (times-least t)
+
+  pub held-left : {xs : List ℕ} {i : I} {l r : Tree ℕ I} → Held A f place C xs (node i l r) → Held A f place C xs l
+  held-left {i = i} {l = l} {r = r} h = record {
+    once = λ s. omega (arith, h .once s, times-node s i l r);
+    within = λ s k. h .within s (omega (arith, times-node s i l r));
+    marked = λ s k. h .marked s (omega (arith, times-node s i l r));
+    records = h .records .1;
+  }
+
+  pub held-right : {xs : List ℕ} {i : I} {l r : Tree ℕ I} → Held A f place C xs (node i l r) → Held A f place C xs r
+  held-right {i = i} {l = l} {r = r} h = record {
+    once = λ s. omega (arith, h .once s, times-node s i l r);
+    within = λ s k. h .within s (omega (arith, times-node s i l r));
+    marked = λ s k. h .marked s (omega (arith, times-node s i l r));
+    records = h .records .2;
+  }
+
+  -- a node over two trees with no slot in common, where its record is right
+  pub held-over : {xs : List ℕ} (i : I) (l r : Tree ℕ I) → recordAt xs (place (least r)) ≡ arms (armOf A f l) (armOf A f r) → Held A f place C xs l → Held A f place C xs r
+      → ((s : ℕ) → times s l + times s r ≤ 1) → Held A f place C xs (node i l r)
+  held-over i l r e hl hr d = record {
+    once = λ s. omega (arith, times-node s i l r, d s);
+    within = λ s k. either s (omega (arith, times-node s i l r)) (λ p. hl .within s p) (λ p. hr .within s p);
+    marked = λ s k. either s (omega (arith, times-node s i l r)) (λ p. hl .marked s p) (λ p. hr .marked s p);
+    records = (e, hl .records, hr .records);
+  }
+    where
+      either : {G : Type 0} (s : ℕ) → 0 < times s l + times s r → (0 < times s l → G) → (0 < times s r → G) → G
+      either s h p q = by-cases (eqb (times s l) 0) (λ t. q (omega (arith, eqb-true (times s l) 0 t))) (λ u. p (omega (arith, eqb-false (times s l) 0 u)))
+
+-- the arms that the code makes are the trees'
+pub leafArm-of : (s v : ℕ) → s ≤ 65536 → leafArm s v ≡ arm (2 * s) 1 v v
+unfolding leafArm leafNumber
+leafArm-of s v h = let e : s % 2147483648 ≡ s = omega arith in rw e
+
+module _ {I : Type 0} (A : Axis Mark Box) (f : ℕ → Mark) where
+  pub overArm-of : (i : I) (l r : Tree ℕ I) → least r ≤ 65536 → weight l + weight r ≤ 65536 → overArm (least r) (armOf A f l) (armOf A f r) ≡ armOf A f (node i l r)
+  unfolding overArm innerNumber sum
+  overArm-of i l r h w =
+      let e : least r % 2147483648 ≡ least r = omega arith in
+      let k : (weight l + weight r) % 4294967296 ≡ weight l + weight r = omega arith in
+      rw (e, k)
+
+  module _ {place : ℕ → ℕ} {C n : ℕ} (g : Region place C n) where
+    -- A change leaves a tree alone where the slots whose records it touches name none of its inner nodes: they do not stand in it, or are its least.
+    module _ {P : ℕ → Type 0} {lo hi : ℕ} (low : runPlace C 0 ≤ lo) (high : hi ≤ runPlace C C) {xs ys : List ℕ} (a : Frame place P lo hi xs ys) (inC : (s : ℕ) → P s → s < C) where
+      holds-frame : (t : Tree ℕ I) → ((s : ℕ) → times s t ≤ 1) → ((s : ℕ) → 0 < times s t → s < C) → ((s : ℕ) → P s → (times s t ≡ 0) ⊎ (s ≡ least t))
+          → Holds A f place xs t → Holds A f place ys t
+      holds-frame (leaf s) once within out h = tt
+      holds-frame (node i l r) once within out h = (
+        frame-record g low high a inC (least r) (within (least r) (omega (arith, times-node (least r) i l r, times-least r))) (λ p. unnamed (least r) refl (out (least r) p)) ∙ h .0,
+        holds-frame l (λ s. omega (arith, once s, times-node s i l r)) (λ s k. within s (omega (arith, times-node s i l r))) (λ s p. left s (out s p)) (h .1),
+        holds-frame r (λ s. omega (arith, once s, times-node s i l r)) (λ s k. within s (omega (arith, times-node s i l r))) (λ s p. right s (out s p)) (h .2),
+      )
+        where
+          unnamed : (s : ℕ) → s ≡ least r → (times s (node i l r) ≡ 0) ⊎ (s ≡ least l) → ⊥
+          unnamed s e (inl z) = let p = subst (λ k. 0 < times k r) (sym e) (times-least r) in omega (arith, times-node s i l r)
+          unnamed s e (inr z) =
+              let p = subst (λ k. 0 < times k r) (sym e) (times-least r) in
+              let q = subst (λ k. 0 < times k l) (sym z) (times-least l) in
+              omega (arith, once s, times-node s i l r)
+
+          left : (s : ℕ) → (times s (node i l r) ≡ 0) ⊎ (s ≡ least l) → (times s l ≡ 0) ⊎ (s ≡ least l)
+          left s (inl z) = inl (omega (arith, times-node s i l r))
+          left s (inr z) = inr z
+
+          right : (s : ℕ) → (times s (node i l r) ≡ 0) ⊎ (s ≡ least l) → (times s r ≡ 0) ⊎ (s ≡ least r)
+          right s (inl z) = inl (omega (arith, times-node s i l r))
+          right s (inr z) = inl (let q = subst (λ k. 0 < times k l) (sym z) (times-least l) in omega (arith, once s, times-node s i l r))
+
+      pub held-frame : (t : Tree ℕ I) → ((s : ℕ) → P s → (times s t ≡ 0) ⊎ (s ≡ least t)) → Held A f place C xs t → Held A f place C ys t
+      held-frame t out h = record {
+        once = h .once;
+        within = h .within;
+        marked = λ s k. frame-mark g low high a inC s (h .within s k) ∙ h .marked s k;
+        records = holds-frame t (h .once) (h .within) out (h .records);
+      }
+
+    -- THE NODE: two trees held, with no slot in common, and the record of the node over them written
+    pub node-held : (i : I) (l r : Tree ℕ I) (xs : List ℕ) → length xs ≡ n → Held A f place C xs l → Held A f place C xs r → ((s : ℕ) → times s l + times s r ≤ 1)
+        → Held A f place C (putRecord xs (place (least r)) (armOf A f l) (armOf A f r)) (node i l r)
+    node-held i l r xs ln hl hr d =
+        let name = least r in
+        let inC : name < C = held-least hr in
+        let room : place name + 8 ≤ length xs = omega (arith, g .room name inC) in
+        let a = putRecord-frame place xs name (armOf A f l) (armOf A f r) room in
+        let z : runPlace C 0 ≤ runPlace C 0 = omega arith in
+        let fr = frame-run (runPlace C 0) (runPlace C C) a in
+        let top : runPlace C C ≤ runPlace C C = omega arith in
+        let ys : List ℕ = putRecord xs (place name) (armOf A f l) (armOf A f r) in
+        let kl : Held A f place C ys l =
+        held-frame z top fr (λ s e. rw e inC) l (λ s e. inl (let p = subst (λ k. 0 < times k r) (sym e) (times-least r) in omega (arith, d s))) hl in
+        let kr : Held A f place C ys r = held-frame z top fr (λ s e. rw e inC) r (λ s e. inr e) hr in
+        held-over i l r (putRecord-same place xs name (armOf A f l) (armOf A f r) room) kl kr d
+
+-- the slots that name a tree's inner nodes: all but its least
+abbrev pub Names : {I : Type 0} → Tree ℕ I → ℕ → Type 0
+Names t s = (0 < times s t) × (s ≡ least t → ⊥)
+
+module _ {I : Type 0} where
+  -- trees of the same slots in the same order have the same least and greatest, and the same names
+  pub least-marks : (t u : Tree ℕ I) → marks t ≡ marks u → least t ≡ least u
+  least-marks t u e = least-first t ∙ ap (λ l. getD l 0 0) e ∙ sym (least-first u)
+    where
+      least-first : (t : Tree ℕ I) → least t ≡ getD (marks t) 0 0
+      least-first t = rw (marks-least t .1)
+
+  pub greatest-marks : (t u : Tree ℕ I) → marks t ≡ marks u → greatest t ≡ greatest u
+  greatest-marks t u e = greatest-last t ∙ ap (λ l. getD l (length l - 1) 0) e ∙ sym (greatest-last u)
+    where
+      greatest-last : (t : Tree ℕ I) → greatest t ≡ getD (marks t) (length (marks t) - 1) 0
+      greatest-last (leaf s) = refl
+      greatest-last (node i l r) =
+          let e : length (marks l ++ marks r) - 1 ≡ length (marks l) + (length (marks r) - 1) =
+          omega (arith, length-append (marks l) (marks r), marks-pos r) in
+          rw (e, getD-append-add (marks l) (marks r) (length (marks r) - 1) 0) (greatest-last r)
+
+  pub names-marks : (t u : Tree ℕ I) → marks t ≡ marks u → (s : ℕ) → Names t s → Names u s
+  names-marks t u e s k = (subst (λ l. 0 < timesIn s l) e (k .0), λ q. k .1 (q ∙ sym (least-marks t u e)))
+
+  -- a name of the left child, and every slot of the right child, is a name of the node
+  module _ (i : I) (l r : Tree ℕ I) where
+    pub names-left : (s : ℕ) → Names l s → Names (node i l r) s
+    names-left s k = (omega (arith, k .0, times-node s i l r), k .1)
+
+    pub names-right : ((s : ℕ) → times s l + times s r ≤ 1) → (s : ℕ) → 0 < times s r → Names (node i l r) s
+    names-right d s k = (omega (arith, times-node s i l r), λ e. let p = subst (λ q. 0 < times q l) (sym e) (times-least l) in omega (arith, d s))
+
+    -- and so is the node's own
+    pub names-own : ((s : ℕ) → times s l + times s r ≤ 1) → (s : ℕ) → s ≡ least r → Names (node i l r) s
+    names-own d s e = names-right d s (subst (λ q. 0 < times q r) (sym e) (times-least r))
+
+-- What an operation leaves: the arm of a tree that the words hold, and all words as they were but for the records of the tree's names and run A.
+pub record Leaves {I : Type 0} (A : Axis Mark Box) (f : ℕ → Mark) (place : ℕ → ℕ) (C : ℕ) (xs : List ℕ) (a : Arm) (ys : List ℕ) (t : Tree ℕ I) : Type 0 where
+  pub is : a ≡ armOf A f t
+  pub held : Held A f place C ys t
+  pub frame : Frame place (Names t) (runPlace C 0) (runPlace C C) xs ys
+
+-- A tree stays where the records of its names and the marks of its slots read the same.
+module _ {I : Type 0} (A : Axis Mark Box) (f : ℕ → Mark) where
+  holds-same : (place : ℕ → ℕ) (xs ys : List ℕ) (t : Tree ℕ I) → ((s : ℕ) → times s t ≤ 1)
+      → ((s : ℕ) → Names t s → recordAt ys (place s) ≡ recordAt xs (place s)) → Holds A f place xs t → Holds A f place ys t
+  holds-same place xs ys (leaf s) once same h = tt
+  holds-same place xs ys (node i l r) once same h =
+      let d : ((s : ℕ) → times s l + times s r ≤ 1) = λ s. omega (arith, once s, times-node s i l r) in (
+        same (least r) (names-own i l r d (least r) refl) ∙ h .0,
+        holds-same place xs ys l (λ s. omega (arith, d s)) (λ s k. same s (names-left i l r s k)) (h .1),
+        holds-same place xs ys r (λ s. omega (arith, d s)) (λ s k. same s (names-right i l r d s (k .0))) (h .2),
+      )
+
+  pub held-same : {place : ℕ → ℕ} {C : ℕ} {xs ys : List ℕ} (t : Tree ℕ I) → ((s : ℕ) → Names t s → recordAt ys (place s) ≡ recordAt xs (place s))
+      → ((s : ℕ) → 0 < times s t → slotMark ys s ≡ slotMark xs s) → Held A f place C xs t → Held A f place C ys t
+  held-same {place = place} {xs = xs} {ys = ys} t same mark h = record {
+    once = h .once;
+    within = h .within;
+    marked = λ s k. mark s k ∙ h .marked s k;
+    records = holds-same place xs ys t (h .once) same (h .records);
+  }

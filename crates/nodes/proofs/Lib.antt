@@ -1,0 +1,5 @@
+pub mod Stores
+pub mod Frames
+pub mod Held
+pub mod Spots
+pub mod Levels

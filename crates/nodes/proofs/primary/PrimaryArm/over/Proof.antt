@@ -1,0 +1,25 @@
+use borrow.Author.Needs.{needs}
+use Rattle.nodes.proofs.primary.PrimaryArm.over.Statement.{statement}
+use Rattle.nodes.specs.Arms.{overArm}
+use Rattle.table.specs.Weights.{sum}
+use Rattle.nodes.proofs.primary.PrimaryArm.over.Tie as tie
+use Rattle.nodes.proofs.primary.PrimaryArm.over.Reads as reads
+use Rattle.nodes.proofs.primary.PrimaryArm.over.Lts as lts
+use Rattle.nodes.proofs.primary.Primary.inner.Reads as inner-reads
+use Rattle.table.proofs.weights.sum.Reads as sum-reads
+
+-- src/primary.rt:95:13
+inner-requires : tie.Need-inner-requires
+inner-requires c κs = search needs
+
+-- src/primary.rt:96:13
+sum-requires : tie.Need-sum-requires
+sum-requires c κs = search needs
+
+-- src/primary.rt:92:5
+returns : tie.Need-returns
+unfolding overArm
+returns c = rw (← c .before .inner .ensures, ← c .sum .ensures)
+
+pub over-spec : {M : Type 1} → statement M
+over-spec = tie.close (tie.spec inner-requires sum-requires returns)

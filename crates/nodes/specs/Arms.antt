@@ -1,0 +1,67 @@
+-- Numbers of nodes, arms and records, of main and auxiliary trees alike (docs/LAYOUT.md, "Arms and records"). Assumes nothing.
+use Prim.Native.Nat.{ℕ, _+_, _*_, _%_}
+use mathlib.Core.List.{List, [], _∷_}
+use lib.Dec.{leb}
+use lib.ListN.{length, getD}
+use lib.Seq.{sets}
+use Rattle.model.specs.Lists.{if_then_else_}
+use Rattle.table.specs.Weights.{sum, lesser, greater}
+
+-- "2 s for the leaf of slot s, 2 s + 1 for the inner node named s"; slots are far below 2^31
+unfoldable pub leafNumber : ℕ → ℕ
+leafNumber s = 2 * (s % 2147483648)
+
+unfoldable pub innerNumber : ℕ → ℕ
+innerNumber name = 2 * (name % 2147483648) + 1
+
+-- what points to a tree: its root's number, its weight, its cell
+pub record Arm : Type 0 where
+  pub node : ℕ
+  pub weight : ℕ
+  pub least : ℕ
+  pub greatest : ℕ
+
+abbrev pub arm : ℕ → ℕ → ℕ → ℕ → Arm
+arm n w lo hi = record { node = n; weight = w; least = lo; greatest = hi }
+
+abbrev pub noArm : Arm
+noArm = arm 0 0 0 0
+
+-- the leaf of slot s at the coordinate v, and the inner node of a name over two trees
+unfoldable pub leafArm : ℕ → ℕ → Arm
+leafArm s v = arm (leafNumber s) 1 v v
+
+unfoldable pub overArm : ℕ → Arm → Arm → Arm
+overArm name l r = arm (innerNumber name) (sum (l .weight) (r .weight)) (l .least) (r .greatest)
+
+-- the same root with one mark more, at the coordinate v
+unfoldable pub grownArm : Arm → ℕ → Arm
+grownArm a v = arm (a .node) (sum (a .weight) 1) (lesser (a .least) v) (greater (a .greatest) v)
+
+-- an inner node's record: the arms of its children
+pub record Record : Type 0 where
+  pub left : Arm
+  pub right : Arm
+
+abbrev pub arms : Arm → Arm → Record
+arms l r = record { left = l; right = r }
+
+-- where the words are not all there, an arm or a record reads as no trees, and nothing is written
+unfoldable pub armAt : List ℕ → ℕ → Arm
+armAt xs at = if leb (at + 4) (length xs) then arm (getD xs at 0) (getD xs (at + 1) 0) (getD xs (at + 2) 0) (getD xs (at + 3) 0) else noArm
+
+unfoldable pub putArm : List ℕ → ℕ → Arm → List ℕ
+putArm xs at a = if leb (at + 4) (length xs) then sets xs at (a .node ∷ a .weight ∷ a .least ∷ a .greatest ∷ []) else xs
+
+unfoldable pub recordAt : List ℕ → ℕ → Record
+recordAt xs at =
+    if leb (at + 8) (length xs)
+    then arms (arm (getD xs at 0) (getD xs (at + 1) 0) (getD xs (at + 2) 0) (getD xs (at + 3) 0))
+    (arm (getD xs (at + 4) 0) (getD xs (at + 5) 0) (getD xs (at + 6) 0) (getD xs (at + 7) 0))
+    else arms noArm noArm
+
+unfoldable pub putRecord : List ℕ → ℕ → Arm → Arm → List ℕ
+putRecord xs at l r =
+    if leb (at + 8) (length xs)
+    then sets xs at (l .node ∷ l .weight ∷ l .least ∷ l .greatest ∷ r .node ∷ r .weight ∷ r .least ∷ r .greatest ∷ [])
+    else xs

@@ -1,0 +1,4 @@
+-- Arms and records, and what it is for words to hold a tree, to be read in this order. `Values` gives the code's structs their meaning.
+pub mod Arms
+pub mod Values
+pub mod Holds
