@@ -84,6 +84,7 @@ fn insert_beneath(
             return main_tree::DAMAGED;
         }
         let below = m.below_x(slots::mark_at(t, name));
+        let next = main_tree::child_place(name, below);
         if secondary_update::insert::unsteady(true, below, l.weight, r.weight) {
             return insert_afresh(t, base, at, m, s);
         }
@@ -93,7 +94,7 @@ fn insert_beneath(
             return main_tree::DAMAGED;
         }
         base = levels::deeper(base, capacity);
-        at = main_tree::child_place(name, below);
+        at = next;
     }
     main_tree::DAMAGED
 }

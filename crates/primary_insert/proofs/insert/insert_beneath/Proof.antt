@@ -104,16 +104,16 @@ unsteady-requires c κs = search needs
 
 -- src/insert.rt:83:13
 insert-afresh-requires : tie.Need-insert-afresh-requires Inv-loop μ-loop
-insert-afresh-requires c κs = search (needs, c .before .before .before .before .before .before .before .before .before .before .before .before .before .before .before .before .before .before .before .loop .inv)
+insert-afresh-requires c κs = search (needs, c .before .before .before .before .before .before .before .before .before .before .before .before .before .before .before .before .before .before .before .before .loop .inv)
 
 -- src/insert.rt:83:13
 same-length-3 : tie.Need-same-length-3 Inv-loop μ-loop
-same-length-3 c = search (needs, c .before .before .before .before .before .before .before .before .before .before .before .before .before .before .before .before .before .before .before .before .before .before .loop .inv .0)
+same-length-3 c = search (needs, c .before .before .before .before .before .before .before .before .before .before .before .before .before .before .before .before .before .before .before .before .before .before .before .loop .inv .0)
 
 -- src/insert.rt:83:13
 returns-3 : tie.Need-returns-3 Inv-loop μ-loop
 unfolding mainInsertNode mainInsertArm mainInsertRecord mainWay insertOn
-returns-3 c = rw (← c .before .before .before .before .before .before .before .before .before .before .before .before .before .before .before .before .before .before .before .before .before .before .loop .inv .3, insertBeneath♯-suc _ (positive _ (c .before .before .before .before .before .before .before .before .before .before .before .before .before .before .before .before .before .before .before .before .before .loop-test .taken)), ← c .before .before .before .before .before .before .before .before .before .before .before .before .before .before .before .before .before .before .before .at .ensures, ← c .before .before .before .before .before .before .before .before .before .before .before .before .before .before .before .before .before .is-leaf .ensures, c .before .before .before .before .before .before .before .before .before .before .before .before .before .before .before .before .if1 .left, ← c .before .before .before .before .before .before .before .before .before .before .before .before .before .before .before .slot .ensures, ← c .before .before .before .before .before .before .before .before .before .before .before .before .before .at2 .ensures, ← c .before .before .before .before .before .before .before .before .before .before .disagree .ensures, c .before .before .before .before .before .before .before .before .before .if2 .left, ← c .before .before .before .before .before .before .before .mark-at .ensures, ← c .before .before .before .before .before .before .below-x .ensures, ← c .before .before .before .before .before .unsteady .ensures, c .before .before .before .before .if3 .taken, ← c .before .before .insert-afresh .ensures)
+returns-3 c = rw (← c .before .before .before .before .before .before .before .before .before .before .before .before .before .before .before .before .before .before .before .before .before .before .before .loop .inv .3, insertBeneath♯-suc _ (positive _ (c .before .before .before .before .before .before .before .before .before .before .before .before .before .before .before .before .before .before .before .before .before .before .loop-test .taken)), ← c .before .before .before .before .before .before .before .before .before .before .before .before .before .before .before .before .before .before .before .before .at .ensures, ← c .before .before .before .before .before .before .before .before .before .before .before .before .before .before .before .before .before .before .is-leaf .ensures, c .before .before .before .before .before .before .before .before .before .before .before .before .before .before .before .before .before .if1 .left, ← c .before .before .before .before .before .before .before .before .before .before .before .before .before .before .before .before .slot .ensures, ← c .before .before .before .before .before .before .before .before .before .before .before .before .before .before .at2 .ensures, ← c .before .before .before .before .before .before .before .before .before .before .before .disagree .ensures, c .before .before .before .before .before .before .before .before .before .before .if2 .left, ← c .before .before .before .before .before .before .before .before .mark-at .ensures, ← c .before .before .before .before .before .before .before .below-x .ensures, ← c .before .before .before .before .before .unsteady .ensures, c .before .before .before .before .if3 .taken, ← c .before .before .insert-afresh .ensures)
 
 -- src/insert.rt:85:32
 grown-requires : tie.Need-grown-requires Inv-loop μ-loop
@@ -121,7 +121,7 @@ grown-requires c κs = search needs
 
 -- src/insert.rt:85:9
 put-requires : tie.Need-put-requires Inv-loop μ-loop
-put-requires c κs = search (needs, c .before .before .before .before .before .before .before .before .before .before .before .before .before .before .before .before .before .before .before .before .loop .inv)
+put-requires c κs = search (needs, c .before .before .before .before .before .before .before .before .before .before .before .before .before .before .before .before .before .before .before .before .before .loop .inv)
 
 -- src/insert.rt:86:13
 insert-requires : tie.Need-insert-requires Inv-loop μ-loop
@@ -129,12 +129,12 @@ insert-requires c κs = search needs
 
 -- src/insert.rt:88:13
 same-length-4 : tie.Need-same-length-4 Inv-loop μ-loop
-same-length-4 c = search (needs, c .before .before .before .before .before .before .before .before .before .before .before .before .before .before .before .before .before .before .before .before .before .before .before .before .before .before .before .before .loop .inv .0)
+same-length-4 c = search (needs, c .before .before .before .before .before .before .before .before .before .before .before .before .before .before .before .before .before .before .before .before .before .before .before .before .before .before .before .before .before .loop .inv .0)
 
 -- src/insert.rt:88:13
 returns-4 : tie.Need-returns-4 Inv-loop μ-loop
 unfolding mainInsertNode mainInsertArm mainInsertRecord mainWay insertOn
-returns-4 c = rw (← c .before .before .before .before .before .before .before .before .before .before .before .before .before .before .before .before .before .before .before .before .before .before .before .before .before .before .before .before .loop .inv .3, insertBeneath♯-suc _ (positive _ (c .before .before .before .before .before .before .before .before .before .before .before .before .before .before .before .before .before .before .before .before .before .before .before .before .before .before .before .loop-test .taken)), ← c .before .before .before .before .before .before .before .before .before .before .before .before .before .before .before .before .before .before .before .before .before .before .before .before .before .at .ensures, ← c .before .before .before .before .before .before .before .before .before .before .before .before .before .before .before .before .before .before .before .before .before .before .before .is-leaf .ensures, c .before .before .before .before .before .before .before .before .before .before .before .before .before .before .before .before .before .before .before .before .before .before .if1 .left, ← c .before .before .before .before .before .before .before .before .before .before .before .before .before .before .before .before .before .before .before .before .before .slot .ensures, ← c .before .before .before .before .before .before .before .before .before .before .before .before .before .before .before .before .before .before .before .at2 .ensures, ← c .before .before .before .before .before .before .before .before .before .before .before .before .before .before .before .before .disagree .ensures, c .before .before .before .before .before .before .before .before .before .before .before .before .before .before .before .if2 .left, ← c .before .before .before .before .before .before .before .before .before .before .before .before .before .mark-at .ensures, ← c .before .before .before .before .before .before .before .before .before .before .before .before .below-x .ensures, ← c .before .before .before .before .before .before .before .before .before .before .before .unsteady .ensures, c .before .before .before .before .before .before .before .before .before .before .if3 .left, ← c .before .before .before .before .before .before .before .before .grown .ensures, ← c .before .before .before .before .before .before .before .put .ensures, ← c .before .before .before .insert .ensures, eq-eqb _ _ (c .if4 .taken))
+returns-4 c = rw (← c .before .before .before .before .before .before .before .before .before .before .before .before .before .before .before .before .before .before .before .before .before .before .before .before .before .before .before .before .before .loop .inv .3, insertBeneath♯-suc _ (positive _ (c .before .before .before .before .before .before .before .before .before .before .before .before .before .before .before .before .before .before .before .before .before .before .before .before .before .before .before .before .loop-test .taken)), ← c .before .before .before .before .before .before .before .before .before .before .before .before .before .before .before .before .before .before .before .before .before .before .before .before .before .before .at .ensures, ← c .before .before .before .before .before .before .before .before .before .before .before .before .before .before .before .before .before .before .before .before .before .before .before .before .is-leaf .ensures, c .before .before .before .before .before .before .before .before .before .before .before .before .before .before .before .before .before .before .before .before .before .before .before .if1 .left, ← c .before .before .before .before .before .before .before .before .before .before .before .before .before .before .before .before .before .before .before .before .before .before .slot .ensures, ← c .before .before .before .before .before .before .before .before .before .before .before .before .before .before .before .before .before .before .before .before .at2 .ensures, ← c .before .before .before .before .before .before .before .before .before .before .before .before .before .before .before .before .before .disagree .ensures, c .before .before .before .before .before .before .before .before .before .before .before .before .before .before .before .before .if2 .left, ← c .before .before .before .before .before .before .before .before .before .before .before .before .before .before .mark-at .ensures, ← c .before .before .before .before .before .before .before .before .before .before .before .before .before .below-x .ensures, ← c .before .before .before .before .before .before .before .before .before .before .before .unsteady .ensures, c .before .before .before .before .before .before .before .before .before .before .if3 .left, ← c .before .before .before .before .before .before .before .before .grown .ensures, ← c .before .before .before .before .before .before .before .put .ensures, ← c .before .before .before .insert .ensures, eq-eqb _ _ (c .if4 .taken))
 
 -- src/insert.rt:90:9
 deeper-requires : tie.Need-deeper-requires Inv-loop μ-loop
@@ -151,7 +151,7 @@ loop-less c = omega (arith, c .before .before .before .before .before .before .b
 -- src/insert.rt:67:5
 loop-again : tie.Need-loop-again Inv-loop μ-loop
 unfolding mainInsertNode mainInsertArm mainInsertRecord mainWay insertOn
-loop-again c = (search (needs, c .before .before .before .before .before .before .before .before .before .before .before .before .before .before .before .before .before .before .before .before .before .before .before .before .before .before .before .before .before .before .loop .inv .0), c .child-place .ensures .1, omega (arith, c .before .before .before .before .before .before .before .before .before .before .before .before .before .before .before .before .before .before .before .before .before .before .before .before .before .before .before .before .before .before .loop .inv .2), rw (← c .before .before .before .before .before .before .before .before .before .before .before .before .before .before .before .before .before .before .before .before .before .before .before .before .before .before .before .before .before .before .loop .inv .3, insertBeneath♯-suc _ (positive _ (c .before .before .before .before .before .before .before .before .before .before .before .before .before .before .before .before .before .before .before .before .before .before .before .before .before .before .before .before .before .loop-test .taken)), ← c .before .before .before .before .before .before .before .before .before .before .before .before .before .before .before .before .before .before .before .before .before .before .before .before .before .before .before .at .ensures, ← c .before .before .before .before .before .before .before .before .before .before .before .before .before .before .before .before .before .before .before .before .before .before .before .before .before .is-leaf .ensures, c .before .before .before .before .before .before .before .before .before .before .before .before .before .before .before .before .before .before .before .before .before .before .before .before .if1 .left, ← c .before .before .before .before .before .before .before .before .before .before .before .before .before .before .before .before .before .before .before .before .before .before .before .slot .ensures, ← c .before .before .before .before .before .before .before .before .before .before .before .before .before .before .before .before .before .before .before .before .before .at2 .ensures, ← c .before .before .before .before .before .before .before .before .before .before .before .before .before .before .before .before .before .before .disagree .ensures, c .before .before .before .before .before .before .before .before .before .before .before .before .before .before .before .before .before .if2 .left, ← c .before .before .before .before .before .before .before .before .before .before .before .before .before .before .before .mark-at .ensures, ← c .before .before .before .before .before .before .before .before .before .before .before .before .before .before .below-x .ensures, ← c .before .before .before .before .before .before .before .before .before .before .before .before .before .unsteady .ensures, c .before .before .before .before .before .before .before .before .before .before .before .before .if3 .left, ← c .before .before .before .before .before .before .before .before .before .before .grown .ensures, ← c .before .before .before .before .before .before .before .before .before .put .ensures, ← c .before .before .before .before .before .insert .ensures, ne-eqb _ _ (c .before .before .if4 .left), ← c .before .deeper .ensures, ← c .child-place .ensures .0))
+loop-again c = (search (needs, c .before .before .before .before .before .before .before .before .before .before .before .before .before .before .before .before .before .before .before .before .before .before .before .before .before .before .before .before .before .before .loop .inv .0), c .before .before .before .before .before .before .before .before .before .before .before .before .before .child-place .ensures .1, omega (arith, c .before .before .before .before .before .before .before .before .before .before .before .before .before .before .before .before .before .before .before .before .before .before .before .before .before .before .before .before .before .before .loop .inv .2), rw (← c .before .before .before .before .before .before .before .before .before .before .before .before .before .before .before .before .before .before .before .before .before .before .before .before .before .before .before .before .before .before .loop .inv .3, insertBeneath♯-suc _ (positive _ (c .before .before .before .before .before .before .before .before .before .before .before .before .before .before .before .before .before .before .before .before .before .before .before .before .before .before .before .before .before .loop-test .taken)), ← c .before .before .before .before .before .before .before .before .before .before .before .before .before .before .before .before .before .before .before .before .before .before .before .before .before .before .before .at .ensures, ← c .before .before .before .before .before .before .before .before .before .before .before .before .before .before .before .before .before .before .before .before .before .before .before .before .before .is-leaf .ensures, c .before .before .before .before .before .before .before .before .before .before .before .before .before .before .before .before .before .before .before .before .before .before .before .before .if1 .left, ← c .before .before .before .before .before .before .before .before .before .before .before .before .before .before .before .before .before .before .before .before .before .before .before .slot .ensures, ← c .before .before .before .before .before .before .before .before .before .before .before .before .before .before .before .before .before .before .before .before .before .at2 .ensures, ← c .before .before .before .before .before .before .before .before .before .before .before .before .before .before .before .before .before .before .disagree .ensures, c .before .before .before .before .before .before .before .before .before .before .before .before .before .before .before .before .before .if2 .left, ← c .before .before .before .before .before .before .before .before .before .before .before .before .before .before .before .mark-at .ensures, ← c .before .before .before .before .before .before .before .before .before .before .before .before .before .before .below-x .ensures, ← c .before .before .before .before .before .before .before .before .before .before .before .before .unsteady .ensures, c .before .before .before .before .before .before .before .before .before .before .before .if3 .left, ← c .before .before .before .before .before .before .before .before .before .grown .ensures, ← c .before .before .before .before .before .before .before .before .put .ensures, ← c .before .before .before .before .insert .ensures, ne-eqb _ _ (c .before .if4 .left), ← c .deeper .ensures, ← c .before .before .before .before .before .before .before .before .before .before .before .before .before .child-place .ensures .0))
 
 -- src/insert.rt:52:1
 same-length-5 : tie.Need-same-length-5 Inv-loop μ-loop
@@ -182,6 +182,7 @@ insert-beneath-spec =
     returns-2
     mark-at-requires
     below-x-requires
+    child-place-requires
     unsteady-requires
     insert-afresh-requires
     same-length-3
@@ -192,7 +193,6 @@ insert-beneath-spec =
     same-length-4
     returns-4
     deeper-requires
-    child-place-requires
     loop-less
     loop-again
     same-length-5
