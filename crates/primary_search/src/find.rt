@@ -3,6 +3,7 @@ ghost use mathlib.Core.Path.{_≡_};
 ghost use Rattle.geometry.specs.Values.{markValue};
 ghost use Rattle.primary_search.specs.Find.{find♯, findBeneath♯};
 use geometry::Mark;
+use nodes::primary::Primary;
 use nodes::primary::PrimaryArm;
 use nodes::primary::PrimaryRecord;
 use table::header;
@@ -16,10 +17,10 @@ pub const ABSENT: u32 = 4294967295;
 pub const DAMAGED: u32 = 4294967294;
 
 // The slot of the mark m beneath a node.
-fn find_beneath(t: &[u32], m: Mark, start: u32, fuel: u32) -> u32
-    ensures { λ r. ⌜ r ≡ findBeneath♯ fuel (now (t .entry)) (markValue m) start ⌝ }
+fn find_beneath(t: &[u32], m: Mark, start: Primary, fuel: u32) -> u32
+    ensures { λ r. ⌜ r ≡ findBeneath♯ fuel (now (t .entry)) (markValue m) (start .0) ⌝ }
 {
-    let mut node = start;
+    let mut node = start.0;
     let mut left = fuel;
     while 0 < left {
         left -= 1;
@@ -54,5 +55,5 @@ pub fn find(t: &[u32], m: Mark) -> u32
         return ABSENT;
     }
     let node = root.node;
-    find_beneath(t, m, node.0, limits::DEEPEST)
+    find_beneath(t, m, node, limits::DEEPEST)
 }

@@ -21,11 +21,11 @@ nothing : (n : ℕ) → n ≤ 0 → n ≡ 0
 nothing n h = omega arith
 
 abbrev Inv-loop : tie.InvT-loop
-Inv-loop t m start fuel node₀ left₀ node left =
+Inv-loop t m fuel node₀ left₀ node left =
     (left ≤ fuel) × (findBeneath♯ left t (markValue m) node ≡ findBeneath♯ fuel t (markValue m) node₀)
 
 abbrev μ-loop : tie.MeasureT-loop
-μ-loop t m start fuel node₀ left₀ node left = left
+μ-loop t m fuel node₀ left₀ node left = left
 
 -- src/find.rt:24:5
 loop-holds : tie.Need-loop-holds Inv-loop μ-loop
