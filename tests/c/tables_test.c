@@ -7,7 +7,7 @@
 #include <unistd.h>
 
 enum { HEADER = 64, GUARD = 64, MOST = 11781, ABSENT = -1 };
-static const uint32_t DAMAGED = UINT32_MAX, GUARD_WORD = 0xA5A55A5A;
+static const uint32_t NO_SLOT = UINT32_MAX - 1, GUARD_WORD = 0xA5A55A5A;
 
 void trial_empty(uint32_t *table, size_t words, uint32_t capacity);
 uint32_t trial_find(const uint32_t *table, size_t words, uint32_t x, uint32_t y, uint32_t tag);
@@ -90,8 +90,8 @@ static struct box any_box(const struct run *r) {
 static void insert_one(struct run *r) {
     struct mark m = any_mark(r);
     uint32_t slot = trial_find(r->lent.table, r->lent.words, m.x, m.y, m.tag);
-    expect((slot == DAMAGED) == (plain_at(r, m) == ABSENT));
-    if (slot != DAMAGED || r->live == r->capacity) return;
+    expect((slot == NO_SLOT) == (plain_at(r, m) == ABSENT));
+    if (slot != NO_SLOT || r->live == r->capacity) return;
     uint32_t built = trial_insert(r->lent.table, r->lent.words, m.x, m.y, m.tag);
     expect(built == insert(ALONG_X, &r->tree, m));
     rebuilds += built != 0;
@@ -110,7 +110,7 @@ static void strike_one(struct run *r) {
     rebuilds += built != 0;
     r->plain[i] = r->plain[--r->live];
     expect(r->lent.table[2] == r->live);
-    expect(trial_find(r->lent.table, r->lent.words, m.x, m.y, m.tag) == DAMAGED);
+    expect(trial_find(r->lent.table, r->lent.words, m.x, m.y, m.tag) == NO_SLOT);
 }
 
 static uint32_t scan(const struct run *r, struct box b, struct mark *held) {

@@ -22,7 +22,7 @@ use Rattle.model.proofs.Logic.{by-order}
 use Rattle.model.proofs.Lists.{all-insertSorted, insertSorted-countIf, insertSorted-length}
 use Rattle.model.proofs.Tree.{weight-marks, rebalance-marks, insert-marks}
 use Rattle.model.proofs.TwoFold.{main-insert-marks}
-use Rattle.table.specs.Layout.{openPlace, capacityPlace, livePlace, slotPlace, mainPlace, auxiliaryPlace, rootPlace, levelPlace, recordPlace}
+use Rattle.table.specs.Layout.{openPlace, capacityPlace, livePlace, slotPlace, mainPlace, auxiliaryPlace, rootPlace, levelPlace, recordPlace, damaged}
 use Rattle.table.specs.Marks.{markAt, slotMark, putMark}
 use Rattle.nodes.specs.Arms.{armAt}
 use Rattle.table.specs.Weights.{sum}
@@ -41,7 +41,6 @@ use Rattle.twofold.proofs.Rules.{slotSameness, slotX-laws, rules-auxiliary-time
 use Rattle.twofold.proofs.Stands.{stands-marks, stands-insert, stands-insertRebuilt}
 use Rattle.twofold.proofs.Agrees.{countIf-map}
 use Rattle.twofold.proofs.Marks.{SameOn, armOf-marks, two-marks, rules-marks, marksMain-marks}
-use Rattle.secondary_update.specs.Insert.{damaged}
 use Rattle.primary_insert.specs.Insert.{mainInsert♯}
 use Rattle.primary_insert.proofs.Inserting.{mainInsert-holds, mainInsert-first}
 use Rattle.primary.specs.Sound.{capacityOf, liveOf, usedAt, HoldsTree, TreeByRules, Holding}

@@ -19,7 +19,7 @@ use Rattle.model.proofs.Lists.{all-removeFirst, removeFirst-length}
 use Rattle.model.proofs.Orders.{sheet-sameness, alongX-laws}
 use Rattle.model.proofs.Tree.{rebalance-marks}
 use Rattle.model.proofs.TwoFold.{main-strike-marks}
-use Rattle.table.specs.Layout.{openPlace, livePlace, rootPlace, usedPlace, runPlace}
+use Rattle.table.specs.Layout.{openPlace, livePlace, rootPlace, usedPlace, runPlace, damaged}
 use Rattle.table.specs.Marks.{slotMark}
 use Rattle.nodes.specs.Holds.{timesIn, times}
 use Rattle.table.specs.After.{After, after}
@@ -30,7 +30,6 @@ use Rattle.twofold.proofs.Frames.{TwoFrame}
 use Rattle.twofold.proofs.Kept.{kept-header, kept-capacity, kept-lists}
 use Rattle.twofold.proofs.Rules.{slot-count, strike-rules}
 use Rattle.twofold.proofs.Stands.{stands-strike, stands-strikeRebuilt}
-use Rattle.secondary_update.specs.Insert.{damaged}
 use Rattle.secondary_update.proofs.Striking.{strike-leads, struckNode, leads-strikes, strikes-times}
 use Rattle.primary_search.specs.Find.{find♯}
 use Rattle.primary_strike.specs.Strike.{mainStrike♯}

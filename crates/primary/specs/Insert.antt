@@ -5,11 +5,10 @@ use lib.Dec.{leb}
 use lib.ListN.{getD, set}
 use Rattle.model.specs.Lists.{if_then_else_}
 use Rattle.model.specs.Sheet.{Mark}
-use Rattle.table.specs.Layout.{capacityPlace, livePlace, slotPlace, usedPlace}
+use Rattle.table.specs.Layout.{capacityPlace, livePlace, slotPlace, usedPlace, damaged}
 use Rattle.table.specs.Marks.{putMark}
 use Rattle.table.specs.Weights.{sum}
 use Rattle.table.specs.After.{After, after}
-use Rattle.secondary_update.specs.Insert.{damaged}
 use Rattle.primary_insert.specs.Insert.{mainInsert♯}
 
 -- the mark in its slot, and one live mark more

@@ -5,12 +5,10 @@ ghost use Rattle.table.specs.After.{after};
 ghost use Rattle.primary.specs.Insert.{tableInsert♯};
 use geometry::Mark;
 use table::header;
+use table::limits;
 use table::runs;
 use table::slots;
 use table::weights;
-
-// What an insertion gives in place of its figure where the table is not sound.
-pub const DAMAGED: u32 = 4294967295;
 
 // Inserts a mark that the table does not have, where it has room: the first free slot takes it. Gives the weight of the main node built afresh, or 0.
 pub fn insert(t: &mut [u32], m: Mark) -> u32
@@ -20,7 +18,7 @@ pub fn insert(t: &mut [u32], m: Mark) -> u32
     let live = header::live(t);
     let s = runs::used(t, capacity, live);
     if capacity <= s {
-        return DAMAGED;
+        return limits::DAMAGED;
     }
     slots::put_slot(t, s, m);
     header::put_live(t, weights::sum(live, 1));

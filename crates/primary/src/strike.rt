@@ -23,7 +23,7 @@ fn free_slot(t: &mut [u32], s: u32)
     header::put_live(t, last);
 }
 
-// Strikes the mark m, which stands in slot s. Gives the weight of the main node built afresh, or 0; primary_strike's DAMAGED where the table is not sound.
+// Strikes the mark m, which stands in slot s. Gives the weight of the main node built afresh, or 0; limits::DAMAGED where the table is not sound.
 pub fn strike(t: &mut [u32], m: Mark, s: u32) -> u32
     ensures { λ r. ⌜ after r (now (t .exit)) ≡ tableStrike♯ (markValue m) s (now (t .entry)) ⌝ }
 {

@@ -25,7 +25,7 @@ use Rattle.model.proofs.Depth.{balanced-depth}
 use Rattle.model.proofs.Orders.{same-sound, alongX-laws}
 use Rattle.model.proofs.Tree.{weight-pos, weight-marks, marks-pos, build-marks, rebalance-marks, rebalance-weight, rebalance-balanced}
 use Rattle.model.proofs.Rebalance.{rebalance-left, rebalance-right, rebuilt-left, rebuilt-right}
-use Rattle.table.specs.Layout.{capacityPlace, mainPlace, auxiliaryPlace, rootPlace, runPlace, levelPlace, recordPlace, deepest}
+use Rattle.table.specs.Layout.{capacityPlace, mainPlace, auxiliaryPlace, rootPlace, runPlace, levelPlace, recordPlace, deepest, damaged}
 use Rattle.table.specs.Marks.{slotMark}
 use Rattle.nodes.specs.Arms.{Arm, arms, grownArm, armAt, putArm}
 use Rattle.table.specs.Weights.{sum}
@@ -41,7 +41,7 @@ use Rattle.twofold.proofs.Frames.{TwoFrame, TwoSpot, twoFrame-trans, twoFrame-w
 use Rattle.twofold.proofs.Kept.{clear-none, clear-spot, kept-capacity, kept-mark, kept-arm}
 use Rattle.twofold.proofs.Over.{TwoLeaves, TwoLeavesAt, two-left, two-right, top-level, deeper-level, two-main}
 use Rattle.twofold.proofs.Rules.{rules-left, rules-right, build-rules, insert-ordered, new-slot}
-use Rattle.secondary_update.specs.Insert.{damaged, unsteady♯, childPlace, split♯, insertNode, insertArm, insert♯}
+use Rattle.secondary_update.specs.Insert.{unsteady♯, childPlace, split♯, insertNode, insertArm, insert♯}
 use Rattle.secondary_update.proofs.Inserting.{insert-times, insert-weight, insert-depth, insert-least, insert-names, rebuilt-weight, ByCoordinate, axis-coordinate, sum-one, grown-arm, leaf-held, grown-once, grown-within, insert-holds}
 use Rattle.secondary_update.proofs.Auxiliaries.{carried}
 use Rattle.primary_build.specs.Build.{Freshly, mainRebuild♯}

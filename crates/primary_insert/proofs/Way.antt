@@ -16,7 +16,7 @@ use Rattle.model.specs.Sheet.{Mark, sheet, alongX, alongY}
 use Rattle.model.specs.Slots.{slotSpace, slotAxis}
 use Rattle.model.specs.Laws.{SameBag, Sorted}
 use Rattle.model.proofs.Logic.{by-order}
-use Rattle.table.specs.Layout.{capacityPlace, mainPlace, auxiliaryPlace, runPlace, levelPlace, recordPlace, deepest}
+use Rattle.table.specs.Layout.{capacityPlace, mainPlace, auxiliaryPlace, runPlace, levelPlace, recordPlace, deepest, damaged}
 use Rattle.table.specs.Marks.{slotMark}
 use Rattle.nodes.specs.Arms.{Arm, arms, armAt, putArm}
 use Rattle.nodes.specs.Holds.{armOf, timesIn, times, Held}
@@ -29,7 +29,7 @@ use Rattle.twofold.proofs.Frames.{TwoFrame, TwoSpot, twoFrame-trans, twoFrame-w
 use Rattle.twofold.proofs.Kept.{Clear, clear-spot, kept-arm, kept-own, kept-two}
 use Rattle.twofold.proofs.Over.{TwoLeaves, TwoLeavesAt, two-over, two-level}
 use Rattle.twofold.proofs.Rules.{auxiliary-insert-of, rules-auxiliary-times, new-slot}
-use Rattle.secondary_update.specs.Insert.{damaged, insert♯}
+use Rattle.secondary_update.specs.Insert.{insert♯}
 use Rattle.secondary_update.proofs.Auxiliaries.{carried, auxiliary-insert}
 
 -- an arm written at a spot leaves a tree whose names the spot is apart from

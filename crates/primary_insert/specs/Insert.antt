@@ -8,12 +8,12 @@ use lib.Dec.{eqb}
 use lib.ListN.{getD}
 use Rattle.model.specs.Lists.{if_then_else_}
 use Rattle.model.specs.Sheet.{Mark, belowX, alongX, alongY}
-use Rattle.table.specs.Layout.{capacityPlace, mainPlace, auxiliaryPlace, rootPlace, recordPlace, deepest}
+use Rattle.table.specs.Layout.{capacityPlace, mainPlace, auxiliaryPlace, rootPlace, recordPlace, deepest, damaged}
 use Rattle.table.specs.Marks.{slotMark}
 use Rattle.nodes.specs.Arms.{Arm, Record, leafArm, grownArm, armAt, putArm, recordAt}
 use Rattle.table.specs.After.{After, after}
 use Rattle.twofold.specs.Levels.{topLevel, deeper}
-use Rattle.secondary_update.specs.Insert.{damaged, unsteady♯, childPlace, split♯, insert♯}
+use Rattle.secondary_update.specs.Insert.{unsteady♯, childPlace, split♯, insert♯}
 use Rattle.primary_build.specs.Build.{Freshly, mainRebuild♯}
 
 -- the name of the node of a leaf and a mark

@@ -34,8 +34,8 @@ fn insert_afresh(t: &mut [u32], base: u32, at: usize, m: Mark, s: u32) -> u32
     ensures { λ r. ⌜ after r (now (t .exit)) ≡ mainAfresh♯ (markValue m) s base at (now (t .entry)) ⌝ }
 {
     let done = main_tree::put(t, at, m, s, limits::DEEPEST);
-    if done == main_tree::DAMAGED {
-        return main_tree::DAMAGED;
+    if done == limits::DAMAGED {
+        return limits::DAMAGED;
     }
     let a = PrimaryArm::at(t, at);
     let fresh = primary_build::build::rebuild(
@@ -47,7 +47,7 @@ fn insert_afresh(t: &mut [u32], base: u32, at: usize, m: Mark, s: u32) -> u32
     );
     let b = fresh.arm;
     if b.weight == 0 {
-        return main_tree::DAMAGED;
+        return limits::DAMAGED;
     }
     PrimaryArm::put(t, at, b);
     a.weight
@@ -81,7 +81,7 @@ fn insert_beneath(
         let l = p.left;
         let r = p.right;
         if weights::disagree(l.weight, r.weight, a.weight) {
-            return main_tree::DAMAGED;
+            return limits::DAMAGED;
         }
         let below = m.below_x(slots::mark_at(t, name));
         let next = main_tree::child_place(name, below);
@@ -90,13 +90,13 @@ fn insert_beneath(
         }
         PrimaryArm::put(t, at, a.grown(m.x));
         let done = secondary_update::insert::insert(t, base, name, m, s);
-        if done == main_tree::DAMAGED {
-            return main_tree::DAMAGED;
+        if done == limits::DAMAGED {
+            return limits::DAMAGED;
         }
         base = levels::deeper(base, capacity);
         at = next;
     }
-    main_tree::DAMAGED
+    limits::DAMAGED
 }
 
 // Inserts the mark m, which stands in slot s; gives the weight of the main node built afresh, or 0. The first mark is a lone leaf.

@@ -12,11 +12,9 @@ ghost use Rattle.primary_insert.specs.Insert.{splitName};
 use geometry::Mark;
 use nodes::primary::PrimaryArm;
 use nodes::primary::PrimaryRecord;
+use table::limits;
 use table::slots;
 use table::weights;
-
-// What an insertion gives in place of its figure where the words hold no tree.
-pub const DAMAGED: u32 = 4294967295;
 
 // The word at which the left, or the right, arm of the main node of that name stands.
 pub fn child_place(name: u32, left: bool) -> usize
@@ -69,11 +67,11 @@ pub fn put(t: &mut [u32], start: usize, m: Mark, s: u32, fuel: u32) -> u32
         let l = p.left;
         let r = p.right;
         if weights::disagree(l.weight, r.weight, a.weight) {
-            return DAMAGED;
+            return limits::DAMAGED;
         }
         let below = m.below_x(slots::mark_at(t, name));
         PrimaryArm::put(t, at, a.grown(m.x));
         at = child_place(name, below);
     }
-    DAMAGED
+    limits::DAMAGED
 }

@@ -6,15 +6,12 @@ use native.Mathlib.Omega.{arith}
 use lib.Dec.{eqb}
 use Rattle.model.specs.Lists.{if_then_else_}
 use Rattle.model.specs.Sheet.{Mark, same, belowX}
-use Rattle.table.specs.Layout.{mainPlace, rootPlace, deepest}
+use Rattle.table.specs.Layout.{mainPlace, rootPlace, deepest, damaged}
 use Rattle.table.specs.Marks.{slotMark}
 use Rattle.nodes.specs.Arms.{Arm, armAt, recordAt}
 
 abbrev pub absent : ℕ
-absent = 4294967295
-
-abbrev pub damagedFind : ℕ
-damagedFind = 4294967294
+absent = 4294967294
 
 unfoldable pub findLeaf : List ℕ → Mark → ℕ → ℕ
 findLeaf xs m s = if same m (slotMark xs s) then s else absent
@@ -26,10 +23,10 @@ findNode rec xs m n =
     else (if belowX m (slotMark xs (n / 2)) then rec (recordAt xs (mainPlace (n / 2)) .left .node) else rec (recordAt xs (mainPlace (n / 2)) .right .node))
 
 unfoldable pub findBeneath♯ : ℕ → List ℕ → Mark → ℕ → ℕ
-findBeneath♯ zero xs m n = damagedFind
+findBeneath♯ zero xs m n = damaged
 findBeneath♯ (suc f) xs m n = findNode (findBeneath♯ f xs m) xs m n
 
-pub findBeneath♯-zero : (f : ℕ) → f ≡ 0 → (xs : List ℕ) (m : Mark) (n : ℕ) → findBeneath♯ f xs m n ≡ damagedFind
+pub findBeneath♯-zero : (f : ℕ) → f ≡ 0 → (xs : List ℕ) (m : Mark) (n : ℕ) → findBeneath♯ f xs m n ≡ damaged
 unfolding findBeneath♯
 findBeneath♯-zero f e xs m n = rw e
 

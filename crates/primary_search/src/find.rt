@@ -11,10 +11,7 @@ use table::limits;
 use table::slots;
 
 // No slot has the mark.
-pub const ABSENT: u32 = 4294967295;
-
-// The words hold no tree.
-pub const DAMAGED: u32 = 4294967294;
+pub const ABSENT: u32 = 4294967294;
 
 // The slot of the mark m beneath a node.
 fn find_beneath(t: &[u32], m: Mark, start: Primary, fuel: u32) -> u32
@@ -43,10 +40,10 @@ fn find_beneath(t: &[u32], m: Mark, start: Primary, fuel: u32) -> u32
             node = y.0;
         }
     }
-    DAMAGED
+    limits::DAMAGED
 }
 
-// The slot of the mark m, or ABSENT.
+// The slot of the mark m, or ABSENT; limits::DAMAGED where the words hold no tree.
 pub fn find(t: &[u32], m: Mark) -> u32
     ensures { λ r. ⌜ r ≡ find♯ (now (t .entry)) (markValue m) ⌝ }
 {

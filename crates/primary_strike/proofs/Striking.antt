@@ -20,7 +20,7 @@ use Rattle.model.proofs.Orders.{sheet-sameness, alongX-laws}
 use Rattle.model.proofs.Sizes.{D-rises}
 use Rattle.model.proofs.Depth.{balanced-depth}
 use Rattle.model.proofs.Rebalance.{rebalance-left, rebalance-right, rebuilt-left, rebuilt-right}
-use Rattle.table.specs.Layout.{capacityPlace, mainPlace, rootPlace, levelPlace, deepest}
+use Rattle.table.specs.Layout.{capacityPlace, mainPlace, rootPlace, levelPlace, deepest, damaged}
 use Rattle.nodes.specs.Arms.{noArm, arms, armAt}
 use Rattle.nodes.specs.Holds.{armOf, times}
 use Rattle.table.specs.After.{After}
@@ -32,7 +32,6 @@ use Rattle.twofold.specs.TwoFold.{TwoFold}
 use Rattle.twofold.proofs.Frames.{TwoFrame, arm-twoFrame}
 use Rattle.twofold.proofs.Rules.{rules-left, rules-right}
 use Rattle.twofold.proofs.Over.{TwoLeavesAt, two-left, two-right, top-level, deeper-level, two-main}
-use Rattle.secondary_update.specs.Insert.{damaged}
 use Rattle.secondary_update.specs.Strike.{ifStruck, renamed♯}
 use Rattle.secondary_update.proofs.Inserting.{rebuilt-weight}
 use Rattle.secondary_update.proofs.Striking.{strike-leads, struckNode, Strikes, leftGoes, rightGoes, inLeft, inRight, leads-strikes, strikes-in, strikes-weight, renamed-least, apart-least}

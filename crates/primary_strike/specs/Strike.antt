@@ -8,14 +8,13 @@ use lib.Dec.{eqb}
 use lib.ListN.{getD}
 use Rattle.model.specs.Lists.{if_then_else_}
 use Rattle.model.specs.Sheet.{Mark, belowX, alongY}
-use Rattle.table.specs.Layout.{capacityPlace, mainPlace, auxiliaryPlace, rootPlace, recordPlace, deepest}
+use Rattle.table.specs.Layout.{capacityPlace, mainPlace, auxiliaryPlace, rootPlace, recordPlace, deepest, damaged}
 use Rattle.table.specs.Marks.{slotMark}
 use Rattle.nodes.specs.Arms.{Arm, Record, noArm, overArm, armAt, putArm, recordAt, putRecord}
 use Rattle.table.specs.After.{After, after}
 use Rattle.twofold.specs.Levels.{topLevel, deeper}
 use Rattle.secondary_update.specs.Updates.{Strike, strikeOf, noStrike}
 use Rattle.secondary_update.specs.Node.{balanced}
-use Rattle.secondary_update.specs.Insert.{damaged}
 use Rattle.secondary_update.specs.Strike.{ifStruck, renamed♯, strike♯}
 use Rattle.primary_build.specs.Build.{Freshly, mainRebuild♯}
 use Rattle.primary_strike.specs.Lift.{smallDepth, lift♯}

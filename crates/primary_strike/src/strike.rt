@@ -17,9 +17,6 @@ use table::slots;
 use table::weights;
 use twofold::levels;
 
-// What a strike gives in place of its figure where the words hold no tree.
-pub const DAMAGED: u32 = 4294967295;
-
 // What a strike leaves of a main tree: its arm, the weight of the node built afresh, or 0, and its least slot where the struck one was the least. Weight
 // 0 of the arm: the words hold no tree.
 pub struct Struck {
@@ -181,7 +178,7 @@ pub fn strike(t: &mut [u32], m: Mark, s: u32) -> u32
     );
     let a = u.arm;
     if a.weight == 0 {
-        return DAMAGED;
+        return limits::DAMAGED;
     }
     PrimaryArm::put(t, header::ROOT, a);
     u.rebuilt

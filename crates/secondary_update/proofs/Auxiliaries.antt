@@ -14,7 +14,7 @@ use Rattle.model.specs.Sheet.{Mark, Box, sheet, alongY}
 use Rattle.model.specs.Slots.{slotSpace, slotAxis}
 use Rattle.model.specs.Laws.{Sorted}
 use Rattle.model.proofs.Orders.{sheet-sameness, same-sound, alongY-laws}
-use Rattle.table.specs.Layout.{capacityPlace, auxiliaryPlace, runPlace, recordPlace, deepest}
+use Rattle.table.specs.Layout.{capacityPlace, auxiliaryPlace, runPlace, recordPlace, deepest, damaged}
 use Rattle.table.specs.Marks.{slotMark}
 use Rattle.nodes.specs.Arms.{Arm, armAt}
 use Rattle.nodes.specs.Holds.{armOf, times, Held}
@@ -22,7 +22,7 @@ use Rattle.nodes.proofs.Frames.{Region}
 use Rattle.nodes.proofs.Held.{Leaves}
 use Rattle.nodes.proofs.Spots.{auxiliary-spot, LeavesAt}
 use Rattle.nodes.proofs.Levels.{held-shallow}
-use Rattle.secondary_update.specs.Insert.{damaged, insert♯}
+use Rattle.secondary_update.specs.Insert.{insert♯}
 use Rattle.secondary_update.specs.Strike.{strike♯}
 use Rattle.secondary_update.proofs.Inserting.{axis-coordinate, Ready, grows-sound, insert-holds}
 use Rattle.secondary_update.proofs.Striking.{strike-leads, strike-holds}

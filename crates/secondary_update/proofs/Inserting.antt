@@ -20,7 +20,7 @@ use Rattle.model.proofs.Logic.{by-cases, clash}
 use Rattle.model.proofs.Sorted.{sorted-left, sorted-right, sorted-across}
 use Rattle.model.proofs.Tree.{weight-pos, marks-pos, all-least, all-greatest, build-marks}
 use Rattle.model.proofs.Rebalance.{rebalance-left, rebalance-right, rebuilt-left, rebuilt-right}
-use Rattle.table.specs.Layout.{capacityPlace}
+use Rattle.table.specs.Layout.{capacityPlace, damaged}
 use Rattle.table.specs.Marks.{slotMark}
 use Rattle.nodes.specs.Arms.{Arm, arm, arms, grownArm, armAt, putArm}
 use Rattle.table.specs.Weights.{sum, lesser, greater}
@@ -31,7 +31,7 @@ use Rattle.nodes.proofs.Held.{times-node, times-least, held-weight, held-least,
 use Rattle.nodes.proofs.Spots.{record-arms, putArm-length, putArm-same, frameAt-of, frameAt-weaken, putArm-frame, Spot, spot-weaken, record-spot, spot-capacity, spot-mark, spot-held, LeavesAt, put-leaves, left-leaves, right-leaves}
 use Rattle.secondary_build.specs.Build.{rebuild♯}
 use Rattle.secondary_build.proofs.Building.{rebuild-holds}
-use Rattle.secondary_update.specs.Insert.{damaged, unsteady♯, childPlace, nodeAt, split♯, putFresh, afresh♯, Insertion, insertAfresh, insertWay, insertRecord, insertArm, insertNode, insert♯}
+use Rattle.secondary_update.specs.Insert.{unsteady♯, childPlace, nodeAt, split♯, putFresh, afresh♯, Insertion, insertAfresh, insertWay, insertRecord, insertArm, insertNode, insert♯}
 use Rattle.secondary_update.proofs.Mending.{mended, figure, MayMend}
 use Rattle.secondary_update.proofs.Mended.{mended-marks, mended-times, mended-weight, mended-least, mayMend-left, mayMend-right}
 use Rattle.secondary_update.proofs.Joining.{node-leaves}

@@ -8,15 +8,13 @@ use lib.Dec.{eqb}
 use Rattle.model.specs.Lists.{if_then_else_}
 use Rattle.model.specs.Axis.{Axis}
 use Rattle.model.specs.Sheet.{Mark, Box}
+use Rattle.table.specs.Layout.{damaged}
 use Rattle.table.specs.Marks.{slotMark}
 use Rattle.nodes.specs.Arms.{Arm, Record, leafArm, overArm, grownArm, armAt, putArm, recordAt, putRecord}
 use Rattle.table.specs.Weights.{sum}
 use Rattle.table.specs.After.{After, after}
 use Rattle.secondary_build.specs.Build.{rebuild♯}
 use Rattle.secondary_update.specs.Node.{balanced}
-
-abbrev pub damaged : ℕ
-damaged = 4294967295
 
 unfoldable pub unsteady♯ : Bool → Bool → ℕ → ℕ → Bool
 unsteady♯ mends left l r = if mends then (if left then not (balanced (sum l 1) r) else not (balanced l (sum r 1))) else false

@@ -15,9 +15,6 @@ use table::limits;
 use table::slots;
 use table::weights;
 
-// What an insertion gives in place of its figure where the words hold no tree.
-pub const DAMAGED: u32 = 4294967295;
-
 // Whether a node over these weights is not balanced with one mark more on its left or its right, and is to be mended.
 pub fn unsteady(mends: bool, left: bool, l: u32, r: u32) -> bool
     ensures { λ a. ⌜ a ≡ unsteady♯ mends left l r ⌝ }
@@ -65,13 +62,13 @@ fn afresh(t: &mut [u32], base: u32, at: usize, done: u32) -> u32
     requires { ⌜ at < 2 ^ 60 ⌝ }
     ensures { λ r. ⌜ after r (now (t .exit)) ≡ afresh♯ alongY (recordPlace base) at done (now (t .entry)) ⌝ }
 {
-    if done == DAMAGED {
-        return DAMAGED;
+    if done == limits::DAMAGED {
+        return limits::DAMAGED;
     }
     let a = SecondaryArm::at(t, at);
     let fresh = secondary_build::build::rebuild(t, base, a);
     if fresh.weight == 0 {
-        return DAMAGED;
+        return limits::DAMAGED;
     }
     SecondaryArm::put(t, at, fresh);
     a.weight
@@ -106,7 +103,7 @@ fn insert_beneath(
         let l = p.left;
         let r = p.right;
         if weights::disagree(l.weight, r.weight, a.weight) {
-            return DAMAGED;
+            return limits::DAMAGED;
         }
         let below = m.below_y(slots::mark_at(t, name));
         if unsteady(mends, below, l.weight, r.weight) {
@@ -116,7 +113,7 @@ fn insert_beneath(
         SecondaryArm::put(t, at, a.grown(m.y));
         at = child_place(base, name, below);
     }
-    DAMAGED
+    limits::DAMAGED
 }
 
 // Inserts the mark m, which stands in slot s, into the auxiliary tree of the main node named `owner`; gives the weight of the node built afresh, or 0.

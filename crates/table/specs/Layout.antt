@@ -55,3 +55,7 @@ listPlace k = 3 * k
 -- more levels than any tree of 65,536 marks has, D(65,536) = 38, with the one that an insertion may add
 abbrev pub deepest : ℕ
 deepest = 40
+
+-- what is given in place of a slot or of an update's figure where the words hold no tree
+abbrev pub damaged : ℕ
+damaged = 4294967295

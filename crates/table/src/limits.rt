@@ -5,3 +5,6 @@ pub const DEEPEST: u32 = 40;
 
 // The most visits of a count: (4 D + 1) (2 D + 1) at D = 38.
 pub const MOST: u32 = 11781;
+
+// What is given in place of a slot or of an update's figure where the words hold no tree.
+pub const DAMAGED: u32 = 4294967295;

@@ -1,10 +1,10 @@
 use Prim.Native.Nat.{ℕ, _<_}
 use borrow.Fn.Kinds.{In}
 use borrow.Fn.PlainCycle.{Measures, is, falls, and}
+use Rattle.table.specs.Layout.{damaged}
 use Rattle.primary_strike.proofs.strike.+strike_beneath.{statement}
 use Rattle.primary_strike.proofs.strike.+strike_beneath.Tie.{close}
 use Rattle.secondary_update.specs.Node.{balanced}
-use Rattle.secondary_update.specs.Insert.{damaged}
 use Rattle.twofold.specs.Levels.{deeper}
 use borrow.Author.Tests.{eq-eqb, ne-eqb}
 use Rattle.secondary_update.specs.Strike.{ifStruck}

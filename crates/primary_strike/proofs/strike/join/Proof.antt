@@ -1,7 +1,7 @@
 use borrow.Author.Needs.{needs}
+use Rattle.table.specs.Layout.{damaged}
 use Rattle.primary_strike.proofs.strike.join.Statement.{statement}
 use Rattle.model.specs.History.{answer}
-use Rattle.secondary_update.specs.Insert.{damaged}
 use borrow.Author.Tests.{eq-eqb, ne-eqb}
 use Rattle.primary_strike.specs.Strike.{mainJoin♯}
 use Rattle.primary_strike.proofs.strike.join.Tie as tie
