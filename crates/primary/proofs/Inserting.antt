@@ -1,6 +1,6 @@
 -- An insertion into a sound table that has room and not the mark leaves a sound table that holds the model's tree, and gives the model's figure. Assumes
 -- nothing.
-use Prim.Native.Nat.{ℕ, suc, _+_, _%_, _≤_, _<_}
+use Prim.Native.Nat.{ℕ, _+_, _%_, _≤_, _<_}
 use mathlib.Core.Path.{_≡_, refl, sym, ap, ap₂, subst, _∙_}
 use mathlib.Core.Bool.{false}
 use mathlib.Core.List.{List, [], _∷_}
@@ -13,76 +13,42 @@ use lib.Seq.{sets, length-sets, getD-set-same, getD-set-other}
 use borrow.Author.Tests.{le-leb, lt-leb}
 use Rattle.model.specs.Lists.{indicator, countIf, insertSorted}
 use Rattle.model.specs.Sizes.{W}
-use Rattle.model.specs.Tree.{Tree, leaf, node, weight, marks, marksOf, least, insertLeaf, rebalance}
+use Rattle.model.specs.Tree.{leaf, weight, marks, marksOf, insertLeaf, rebalance}
 use Rattle.model.specs.Fold.{insertRebuilt}
-use Rattle.model.specs.Sheet.{Mark, markOutside, same, belowX, sheet, alongX, alongY, auxiliary, Main, main}
+use Rattle.model.specs.Sheet.{Mark, markOutside, same, belowX, sheet, alongX, auxiliary, Main, main}
 use Rattle.model.specs.Slots.{slotSpace, slotAxis}
 use Rattle.model.specs.Laws.{nil, sorted[], sorted∷}
 use Rattle.model.proofs.Logic.{by-order}
 use Rattle.model.proofs.Lists.{all-insertSorted, insertSorted-countIf, insertSorted-length}
 use Rattle.model.proofs.Tree.{weight-marks, rebalance-marks, insert-marks}
 use Rattle.model.proofs.TwoFold.{main-insert-marks}
-use Rattle.table.specs.Layout.{openPlace, capacityPlace, livePlace, slotPlace, mainPlace, auxiliaryPlace, rootPlace, levelPlace, recordPlace, damaged}
+use Rattle.table.specs.Layout.{openPlace, capacityPlace, livePlace, slotPlace, mainPlace, rootPlace, damaged}
 use Rattle.table.specs.Marks.{markAt, slotMark, putMark}
 use Rattle.nodes.specs.Arms.{armAt}
 use Rattle.table.specs.Weights.{sum}
-use Rattle.nodes.specs.Holds.{armOf, timesIn, times}
+use Rattle.nodes.specs.Holds.{timesIn, times}
 use Rattle.table.specs.After.{After}
-use Rattle.nodes.proofs.Frames.{sets-other, sets-at, record-same, slotMark-same}
+use Rattle.nodes.proofs.Frames.{sets-other, sets-at, slotMark-same}
 use Rattle.nodes.proofs.Spots.{arm-same}
-use Rattle.nodes.proofs.Held.{times-node, times-least, held-same, Names}
+use Rattle.nodes.proofs.Held.{Names}
 use Rattle.nodes.proofs.Levels.{table-main}
-use Rattle.twofold.specs.Rules.{SlotAuxiliary, SlotMain, slotAuxiliary, slotMain, AuxiliariesOf, ByRules, marksMain}
-use Rattle.twofold.specs.TwoFold.{HoldsAuxiliary, HoldsAuxiliaries, TwoFold}
+use Rattle.twofold.specs.Rules.{SlotMain, slotAuxiliary, slotMain, AuxiliariesOf, ByRules, marksMain}
+use Rattle.twofold.specs.TwoFold.{TwoFold}
 use Rattle.twofold.proofs.Frames.{root-spot}
 use Rattle.twofold.proofs.Kept.{Clear, clear-spot, kept-header, kept-lists}
 use Rattle.twofold.proofs.Over.{TwoLeavesAt}
-use Rattle.twofold.proofs.Rules.{slotSameness, slotX-laws, rules-auxiliary-times, insert-rules}
+use Rattle.twofold.proofs.Rules.{slotSameness, slotX-laws, insert-rules}
 use Rattle.twofold.proofs.Stands.{stands-marks, stands-insert, stands-insertRebuilt}
 use Rattle.twofold.proofs.Agrees.{countIf-map}
+use Rattle.twofold.proofs.Same.{two-same}
 use Rattle.twofold.proofs.Marks.{SameOn, armOf-marks, two-marks, rules-marks, marksMain-marks}
 use Rattle.primary_insert.specs.Insert.{mainInsert♯}
 use Rattle.primary_insert.proofs.Inserting.{mainInsert-holds, mainInsert-first}
 use Rattle.primary.specs.Sound.{capacityOf, liveOf, usedAt, HoldsTree, TreeByRules, Holding}
 use Rattle.primary.specs.Insert.{entered, insertSlot, insertLive, tableInsert♯}
+use Rattle.primary.proofs.Settled.{settled-holds, settled-rules, settled-stands}
 use Rattle.primary.proofs.Searching.{holding-agrees, holding-small, holding-length}
 use Rattle.primary.proofs.Slots.{SameLists, free-slot, each-once-insert}
-
--- A two-fold tree stays where the words of the main nodes and of all levels, and the marks of its slots, are the same.
-module _ (f : ℕ → Mark) (C : ℕ) (xs ys : List ℕ) (long : length ys ≡ length xs)
-    (nodes : (s : ℕ) → s < C → (j : ℕ) → j < 12 → getD ys (mainPlace s + j) 0 ≡ getD xs (mainPlace s + j) 0)
-    (levels : (i : ℕ) → levelPlace C 0 ≤ i → getD ys i 0 ≡ getD xs i 0) where
-  same-auxiliary : (d name : ℕ) (o : SlotAuxiliary) → name < C
-      → ((u : Tree ℕ (List ℕ)) → o ≡ some u → (s : ℕ) → 0 < times s u → slotMark ys s ≡ slotMark xs s)
-      → HoldsAuxiliary f C d name xs o → HoldsAuxiliary f C d name ys o
-  same-auxiliary d name o n mark h = record {
-    tree = h .tree;
-    is = h .is;
-    arm = arm-same xs ys (auxiliaryPlace name) long (λ j k.
-        let e : auxiliaryPlace name + j ≡ mainPlace name + (8 + j) = omega arith in
-        rw e (nodes name n (8 + j) (omega arith))) ∙ h .arm;
-    held = held-same alongY f (h .tree)
-        (λ s k. record-same xs ys (recordPlace (levelPlace C d) s) long (λ j l. levels (recordPlace (levelPlace C d) s + j) (omega arith)))
-        (mark (h .tree) (h .is)) (h .held);
-  }
-
-  same-auxiliaries : (d : ℕ) (t : SlotMain) → AuxiliariesOf f t → ((s : ℕ) → 0 < times s t → (s < C) × (slotMark ys s ≡ slotMark xs s))
-      → HoldsAuxiliaries f C d xs t → HoldsAuxiliaries f C d ys t
-  same-auxiliaries d (leaf s) of mark h = tt
-  same-auxiliaries d (node i l r) of mark h = (
-    same-auxiliary d (least r) i (mark (least r) (omega (arith, times-node (least r) i l r, times-least r)) .0)
-        (λ u is s k. mark s (subst (λ n. 0 < n) (rules-auxiliary-times f (of .0) is s) k) .1) (h .0),
-    same-auxiliaries (suc d) l (of .1) (λ s k. mark s (omega (arith, times-node s i l r))) (h .1),
-    same-auxiliaries (suc d) r (of .2) (λ s k. mark s (omega (arith, times-node s i l r))) (h .2),
-  )
-
-  two-same : (d : ℕ) (t : SlotMain) → AuxiliariesOf f t → ((s : ℕ) → 0 < times s t → slotMark ys s ≡ slotMark xs s)
-      → TwoFold f C d xs t → TwoFold f C d ys t
-  two-same d t of mark h = record {
-    main = held-same alongX f t
-        (λ s k. record-same xs ys (mainPlace s) long (λ j l. nodes s (h .main .within s (k .0)) j (omega arith))) mark (h .main);
-    auxiliaries = same-auxiliaries d t of (λ s k. (h .main .within s k, mark s k)) (h .auxiliaries);
-  }
 
 -- THE MARK ENTERED
 
@@ -147,23 +113,6 @@ module _ (m : Mark) (s live : ℕ) (xs : List ℕ) (room : slotPlace s + 3 ≤ l
 -- the words of the root's arm are not of a mark, nor before the capacity's end
 pub root-clear : (C : ℕ) → Clear C rootPlace 4
 root-clear C = clear-spot {P = λ q. ⊥} root-spot
-
--- A tree that words hold by marks g, which are those of its slots, they hold by their own marks.
-module _ {g : ℕ → Mark} {C : ℕ} {ys : List ℕ} (t : SlotMain) (is : armAt ys rootPlace ≡ armOf alongX g t) (two : TwoFold g C 0 ys t) (rules : ByRules g t) where
-  own-marks : SameOn g (slotMark ys) (marks t)
-  own-marks q k = sym (two .main .marked q k)
-
-  pub settled-holds : capacityOf ys ≡ C → HoldsTree ys (some t)
-  settled-holds capacity = (
-    is ∙ armOf-marks g (slotMark ys) alongX t own-marks,
-    subst (λ c. TwoFold (slotMark ys) c 0 ys t) (sym capacity) (two-marks g (slotMark ys) t own-marks (rules .auxiliaries) two),
-  )
-
-  pub settled-rules : TreeByRules ys (some t)
-  settled-rules = rules-marks g (slotMark ys) t own-marks rules
-
-  pub settled-stands : marksMain (slotMark ys) (some t) ≡ marksMain g (some t)
-  settled-stands = sym (marksMain-marks g (slotMark ys) t own-marks rules)
 
 -- THE TREE
 

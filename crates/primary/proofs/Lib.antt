@@ -1,4 +1,5 @@
 -- What the functions of src/ do with a sound table.
+pub mod Settled
 pub mod Slots
 pub mod Emptying
 pub mod Searching

@@ -1,6 +1,6 @@
 -- The lists of slots, used and place: a free slot, the lists after an insertion and after a strike, and what the freeing of a slot leaves alone. Assumes
 -- nothing.
-use Prim.Native.Nat.{ℕ, suc, _+_, _-_, _≤_, _<_}
+use Prim.Native.Nat.{ℕ, _+_, _-_, _≤_, _<_}
 use mathlib.Core.Path.{_≡_, refl, sym, ap, ap₂, subst, _∙_}
 use mathlib.Core.Bool.{false}
 use mathlib.Core.List.{List}
@@ -12,25 +12,24 @@ use lib.ListN.{length, getD, set, length-set, length-map}
 use lib.Seq.{getD-set-same, getD-set-other}
 use borrow.Author.Tests.{lt-ltb, le-ltb, ltb-true, ltb-false, eq-eqb, ne-eqb, eqb-true, eqb-false}
 use Rattle.model.specs.Lists.{indicator}
-use Rattle.model.specs.Axis.{Axis}
-use Rattle.model.specs.Tree.{Tree, leaf, node, marks, marksOf, least}
-use Rattle.model.specs.Sheet.{Mark, Box, Main, alongX, alongY}
+use Rattle.model.specs.Tree.{marksOf}
+use Rattle.model.specs.Sheet.{Main}
 use Rattle.model.proofs.Logic.{by-cases}
 use Rattle.model.proofs.Tree.{weight-marks}
-use Rattle.table.specs.Layout.{capacityPlace, livePlace, rootPlace, slotPlace, mainPlace, auxiliaryPlace, usedPlace, placePlace, runPlace, levelPlace}
-use Rattle.table.specs.Layout.{recordPlace}
+use Rattle.table.specs.Layout.{capacityPlace, livePlace, rootPlace, slotPlace, mainPlace, usedPlace, placePlace, runPlace}
 use Rattle.table.specs.Marks.{slotMark}
-use Rattle.nodes.specs.Arms.{armAt, recordAt}
-use Rattle.nodes.specs.Holds.{timesIn, times, Held}
-use Rattle.nodes.proofs.Frames.{record-same, slotMark-same}
-use Rattle.nodes.proofs.Held.{times-node, times-least, held-weight, held-same}
+use Rattle.nodes.specs.Arms.{armAt}
+use Rattle.nodes.specs.Holds.{timesIn}
+use Rattle.nodes.proofs.Frames.{slotMark-same}
+use Rattle.nodes.proofs.Held.{held-weight}
 use Rattle.nodes.proofs.Spots.{arm-same}
-use Rattle.twofold.specs.Rules.{SlotAuxiliary, SlotMain, marksMain}
-use Rattle.twofold.specs.TwoFold.{HoldsAuxiliary, HoldsAuxiliaries, TwoFold}
-use Rattle.twofold.proofs.Marks.{SameOn, armOf-marks, held-marks, rules-marks, marksMain-marks}
+use Rattle.twofold.specs.Rules.{SlotMain, ByRules, marksMain}
+use Rattle.twofold.specs.TwoFold.{TwoFold}
+use Rattle.twofold.proofs.Same.{two-same}
 use Rattle.twofold.proofs.Stands.{stands-marks}
 use Rattle.primary.specs.Sound.{capacityOf, liveOf, usedAt, placeAt, HoldsTree, TreeByRules, EachOnce, Holding}
 use Rattle.primary.specs.Strike.{exchanged, freeWithin, freeSlot♯}
+use Rattle.primary.proofs.Settled.{settled-holds, settled-rules, settled-stands}
 
 -- the first slot that is not live is free
 pub free-slot : {xs : List ℕ} {o : Option SlotMain} → EachOnce xs o → liveOf xs < capacityOf xs
@@ -262,11 +261,6 @@ module _ (last s : ℕ) (zs : List ℕ) where
         (subst (λ n. (q : ℕ) → q < C → timesIn q (marksOf o) ≡ indicator (ltb (placeAt zs q) n)) many (e .live)) one less in
         each-once-by C last (w5-other capacityPlace (omega arith) (omega arith) (omega arith) (omega arith) (omega arith)) w5-live (x .0) (x .1) (x .2)
 
--- all words are the same but for the live marks' and the lists'
-record Beside (C : ℕ) (xs ys : List ℕ) : Type 0 where
-  pub long : length ys ≡ length xs
-  pub same : (j : ℕ) → (j ≡ livePlace → ⊥) → (j < usedPlace C 0) ⊎ (runPlace C 0 ≤ j) → getD ys j 0 ≡ getD xs j 0
-
 -- STRIKE: a slot freed. In these words the slot, its place, the last live place and the slot there are below the capacity.
 pub record Freeing (s : ℕ) (zs : List ℕ) : Type 0 where
   pub own : s < capacityOf zs
@@ -350,84 +344,35 @@ live-within {xs = xs} h = rw (live-slots h) (go (h .slots) (h .holds))
     go none k = omega arith
     go (some t) k = omega (arith, weight-marks t, held-weight (k .1 .main))
 
--- TREES: where the words outside the lists are the same, marks and trees stay
-module _ {C : ℕ} {xs ys : List ℕ} (b : Beside C xs ys) where
-  beside-mark : (q : ℕ) → q < C → slotMark ys q ≡ slotMark xs q
-  beside-mark q h = slotMark-same xs ys q (b .long) (λ j k. b .same (slotPlace q + j) (omega arith) (inl (omega arith)))
-
-  beside-same : {I : Type 0} (t : Tree ℕ I) → ((s : ℕ) → 0 < times s t → s < C) → SameOn (slotMark xs) (slotMark ys) (marks t)
-  beside-same t within s h = sym (beside-mark s (within s h))
-
-  beside-held : {I : Type 0} (A : Axis Mark Box) (place : ℕ → ℕ) (t : Tree ℕ I) → ((s : ℕ) → s < C → recordAt ys (place s) ≡ recordAt xs (place s))
-      → Held A (slotMark xs) place C xs t → Held A (slotMark ys) place C ys t
-  beside-held A place t kept h =
-      held-marks (slotMark xs) (slotMark ys) A t (beside-same t (h .within))
-      (held-same A (slotMark xs) t (λ s k. kept s (h .within s (k .0))) (λ s k. beside-mark s (h .within s k)) h)
-
-  beside-level : (d s : ℕ) → s < C → recordAt ys (recordPlace (levelPlace C d) s) ≡ recordAt xs (recordPlace (levelPlace C d) s)
-  beside-level d s h =
-      let k = recordPlace (levelPlace C d) s in
-      record-same xs ys k (b .long) (λ j l. b .same (k + j) (omega arith) (inr (omega arith)))
-
-  beside-main : (s : ℕ) → s < C → recordAt ys (mainPlace s) ≡ recordAt xs (mainPlace s)
-  beside-main s h = record-same xs ys (mainPlace s) (b .long) (λ j l. b .same (mainPlace s + j) (omega arith) (inl (omega arith)))
-
-  beside-auxiliary : {d name : ℕ} {o : SlotAuxiliary} → name < C → HoldsAuxiliary (slotMark xs) C d name xs o → HoldsAuxiliary (slotMark ys) C d name ys o
-  beside-auxiliary {d = d} {name = name} n h =
-      let arm = arm-same xs ys (auxiliaryPlace name) (b .long) (λ j l. b .same (auxiliaryPlace name + j) (omega arith) (inl (omega arith))) in
-      record {
-        tree = h .tree;
-        is = h .is;
-        arm = arm ∙ h .arm ∙ armOf-marks (slotMark xs) (slotMark ys) alongY (h .tree) (beside-same (h .tree) (h .held .within));
-        held = beside-held alongY (recordPlace (levelPlace C d)) (h .tree) (beside-level d) (h .held);
-      }
-
-  beside-auxiliaries : (d : ℕ) (t : SlotMain) → ((s : ℕ) → 0 < times s t → s < C) → HoldsAuxiliaries (slotMark xs) C d xs t
-      → HoldsAuxiliaries (slotMark ys) C d ys t
-  beside-auxiliaries d (leaf s) within h = tt
-  beside-auxiliaries d (node i l r) within h = (
-    beside-auxiliary (within (least r) (omega (arith, times-node (least r) i l r, times-least r))) (h .0),
-    beside-auxiliaries (suc d) l (λ s k. within s (omega (arith, times-node s i l r))) (h .1),
-    beside-auxiliaries (suc d) r (λ s k. within s (omega (arith, times-node s i l r))) (h .2),
-  )
-
-  beside-two : (t : SlotMain) → TwoFold (slotMark xs) C 0 xs t → TwoFold (slotMark ys) C 0 ys t
-  beside-two t h = record {
-    main = beside-held alongX mainPlace t beside-main (h .main);
-    auxiliaries = beside-auxiliaries 0 t (h .main .within) (h .auxiliaries);
-  }
-
 -- so the freeing of a slot keeps the marks, the tree and its rules
 module _ {s : ℕ} {zs : List ℕ} (a : Freeing s zs) where
-  freeSlot-beside : Beside (capacityOf zs) zs (freeSlot♯ s zs)
-  freeSlot-beside = record { long = freeSlot-length s zs; same = freeSlot-other s zs a }
-
   pub freeSlot-capacity : capacityOf (freeSlot♯ s zs) ≡ capacityOf zs
   freeSlot-capacity = freeSlot-other s zs a capacityPlace (omega arith) (inl (omega arith))
 
-  pub freeSlot-mark : (q : ℕ) → q < capacityOf zs → slotMark (freeSlot♯ s zs) q ≡ slotMark zs q
-  freeSlot-mark = beside-mark freeSlot-beside
+  freeSlot-mark : (q : ℕ) → q < capacityOf zs → slotMark (freeSlot♯ s zs) q ≡ slotMark zs q
+  freeSlot-mark q h =
+      slotMark-same zs (freeSlot♯ s zs) q (freeSlot-length s zs) (λ j k. freeSlot-other s zs a (slotPlace q + j) (omega arith) (inl (omega arith)))
 
   freeSlot-root : armAt (freeSlot♯ s zs) rootPlace ≡ armAt zs rootPlace
   freeSlot-root =
       arm-same zs (freeSlot♯ s zs) rootPlace (freeSlot-length s zs) (λ j l. freeSlot-other s zs a (rootPlace + j) (omega arith) (inl (omega arith)))
 
-  pub freeSlot-holds : (o : Option SlotMain) → HoldsTree zs o → HoldsTree (freeSlot♯ s zs) o
-  freeSlot-holds none h = ap (λ a. a .weight) freeSlot-root ∙ h
-  freeSlot-holds (some t) h =
-      let ys = freeSlot♯ s zs in
-      let same = beside-same freeSlot-beside t (h .1 .main .within) in (
-        freeSlot-root ∙ h .0 ∙ armOf-marks (slotMark zs) (slotMark ys) alongX t same,
-        subst (λ c. TwoFold (slotMark ys) c 0 ys t) (sym freeSlot-capacity) (beside-two freeSlot-beside t (h .1)),
-      )
+  freeSlot-two : (t : SlotMain) → ByRules (slotMark zs) t → TwoFold (slotMark zs) (capacityOf zs) 0 zs t
+      → TwoFold (slotMark zs) (capacityOf zs) 0 (freeSlot♯ s zs) t
+  freeSlot-two t r h =
+      two-same (slotMark zs) (capacityOf zs) zs (freeSlot♯ s zs) (freeSlot-length s zs)
+      (λ q k j l. freeSlot-other s zs a (mainPlace q + j) (omega arith) (inl (omega arith)))
+      (λ i k. freeSlot-other s zs a i (omega arith) (inr (omega arith)))
+      0 t (r .auxiliaries) (λ q k. freeSlot-mark q (h .main .within q k)) h
+
+  pub freeSlot-holds : (o : Option SlotMain) → HoldsTree zs o → TreeByRules zs o → HoldsTree (freeSlot♯ s zs) o
+  freeSlot-holds none h r = ap (λ a. a .weight) freeSlot-root ∙ h
+  freeSlot-holds (some t) h r = settled-holds t (freeSlot-root ∙ h .0) (freeSlot-two t r (h .1)) r freeSlot-capacity
 
   pub freeSlot-rules : (o : Option SlotMain) → HoldsTree zs o → TreeByRules zs o → TreeByRules (freeSlot♯ s zs) o
   freeSlot-rules none h r = tt
-  freeSlot-rules (some t) h r =
-      rules-marks (slotMark zs) (slotMark (freeSlot♯ s zs)) t (beside-same freeSlot-beside t (h .1 .main .within)) r
+  freeSlot-rules (some t) h r = settled-rules t (freeSlot-root ∙ h .0) (freeSlot-two t r (h .1)) r
 
   pub freeSlot-stands : (o : Option SlotMain) → HoldsTree zs o → TreeByRules zs o → marksMain (slotMark (freeSlot♯ s zs)) o ≡ marksMain (slotMark zs) o
   freeSlot-stands none h r = refl
-  freeSlot-stands (some t) h r =
-      let same = beside-same freeSlot-beside t (h .1 .main .within) in
-      sym (marksMain-marks (slotMark zs) (slotMark (freeSlot♯ s zs)) t same r)
+  freeSlot-stands (some t) h r = settled-stands t (freeSlot-root ∙ h .0) (freeSlot-two t r (h .1)) r

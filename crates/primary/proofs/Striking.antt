@@ -39,7 +39,8 @@ use Rattle.primary.specs.Strike.{freeSlot♯, struck, tableStrike♯}
 use Rattle.primary.proofs.Slots.{SameLists, Freeing, freeing, each-once-same, each-once-strike, live-within}
 use Rattle.primary.proofs.Slots.{freeSlot-other, freeSlot-length, freeSlot-capacity, freeSlot-holds, freeSlot-rules, freeSlot-stands}
 use Rattle.primary.proofs.Searching.{holding-agrees, holding-small, find-sound}
-use Rattle.primary.proofs.Inserting.{root-clear, settled-holds, settled-rules, settled-stands}
+use Rattle.primary.proofs.Settled.{settled-holds, settled-rules, settled-stands}
+use Rattle.primary.proofs.Inserting.{root-clear}
 
 -- what a strike of the slot s from the tree o leaves
 record Taken (f : ℕ → Mark) (s : ℕ) (xs : List ℕ) (p : After ℕ) (o : Option SlotMain) : Type 0 where
@@ -178,7 +179,7 @@ module _ (xs : List ℕ) (T : Main) (h : Holding xs T) (m : Mark) (has : 0 < cou
         long = freeSlot-length slot zs ∙ taken .long ∙ h .long ∙ ap W (sym e);
         slots = o;
         stands = stands-taken;
-        holds = freeSlot-holds frees o (taken .holds);
+        holds = freeSlot-holds frees o (taken .holds) (taken .rules);
         rules = freeSlot-rules frees o (taken .holds) (taken .rules);
         coordinates = rw struck-marks (all-removeFirst (same m) (h .coordinates));
         live = freed .1 ∙ omega (arith, h .live, ap length struck-marks, removeFirst-length (same m) (marksOf T) has);

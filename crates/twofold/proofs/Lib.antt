@@ -7,3 +7,4 @@ pub mod Rules
 pub mod Stands
 pub mod Agrees
 pub mod Marks
+pub mod Same
