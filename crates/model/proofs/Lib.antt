@@ -2,6 +2,8 @@
 pub mod Logic
 pub mod Lists
 pub mod Sorted
+pub mod Ascending
+pub mod Merging
 pub mod Orders
 pub mod Sizes
 pub mod Tree

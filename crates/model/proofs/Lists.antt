@@ -2,7 +2,7 @@
 use Prim.Native.Nat.{_+_, _≤_, _<_}
 use mathlib.Core.Path.{_≡_, refl, sym, ap, _∙_}
 use mathlib.Core.Bool.{Bool, true, false, not, _&&_}
-use mathlib.Core.List.{List, [], _∷_, _++_}
+use mathlib.Core.List.{List, [], _∷_, _++_, map}
 use native.Mathlib.Omega.{arith}
 use native.Mathlib.Nat.{zero-add}
 use lib.ListN.{length}
@@ -45,6 +45,16 @@ module _ {M : Type 0} {P : M → Type 0} where
       by-cases (below m q)
       (λ t. rw t (cons p (cons k h)))
       (λ f. rw f (cons k (all-insertSorted below m p h)))
+
+-- what is said of the values of a list
+module _ {N M : Type 0} (f : N → M) {P : M → Type 0} where
+  pub all-mapped : {l : List N} → All (λ s. P (f s)) l → All P (map f l)
+  all-mapped nil = nil
+  all-mapped (cons p h) = cons p (all-mapped h)
+
+  pub all-unmapped : (l : List N) → All P (map f l) → All (λ s. P (f s)) l
+  all-unmapped [] h = nil
+  all-unmapped (s ∷ l) (cons p h) = cons p (all-unmapped l h)
 
 module _ {M : Type 0} where
   pub countIf-append : (p : M → Bool) (l r : List M) → countIf p (l ++ r) ≡ countIf p l + countIf p r

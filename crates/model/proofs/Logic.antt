@@ -5,6 +5,7 @@ use mathlib.Core.Bool.{Bool, true, false, not, _&&_, _||_, true≢false}
 use native.Mathlib.Omega.{arith}
 use lib.Dec.{ltb, leb, eqb}
 use borrow.Author.Tests.{ltb-true, ltb-false, eqb-true, eqb-false, leb-true, leb-false, lt-ltb, le-ltb}
+use Rattle.model.specs.Lists.{if_then_else_}
 
 -- by cases on a test, with the test's value in hand
 pub by-cases {ℓ} : {G : Type ℓ} (c : Bool) → (c ≡ true → G) → (c ≡ false → G) → G
@@ -39,6 +40,19 @@ and-right false b e = clash e refl
 pub or-true-right : (a b : Bool) → b ≡ true → (a || b) ≡ true
 or-true-right true b e = refl
 or-true-right false b e = e
+
+pub or-neither : (a b : Bool) → (a || b) ≡ false → (a ≡ false) × (b ≡ false)
+or-neither true b e = clash refl e
+or-neither false b e = (refl, e)
+
+-- what tests one after the other have passed
+pub both-pass : (a b : Bool) → (if a then b else false) ≡ true → (a ≡ true) × (b ≡ true)
+both-pass true b e = (refl, e)
+both-pass false b e = clash e refl
+
+pub fails-passes : (a b : Bool) → (if a then false else b) ≡ true → (a ≡ false) × (b ≡ true)
+fails-passes true b e = clash e refl
+fails-passes false b e = (refl, e)
 
 pub not-leb : (a b : ℕ) → not (leb a b) ≡ ltb b a
 not-leb a b =

@@ -1,12 +1,13 @@
 -- D(n) is the largest D with 4^D ≤ 3^D × n, and p the least with 2^p ≥ k. Assumes nothing.
 use Prim.Native.Nat.{ℕ, zero, suc, _+_, _*_, _^_, _≤_, _<_}
 use mathlib.Core.Path.{_≡_, refl}
+use mathlib.Core.Bool.{false}
 use native.Mathlib.Omega.{arith}
 use native.Mathlib.Nat.{pow-suc, mul-le-mul-left, le-of-mul-le-mul-left, one-le-pow}
-use lib.Dec.{leb}
-use borrow.Author.Tests.{leb-true, leb-false}
-use Rattle.model.specs.Sizes.{riseD, D, risePasses, passes}
-use Rattle.model.proofs.Logic.{by-cases}
+use lib.Dec.{leb, ltb, eqb}
+use borrow.Author.Tests.{leb-true, leb-false, ltb-false, eqb-false}
+use Rattle.model.specs.Sizes.{riseD, D, largestCapacity, capacityOutside, risePasses, passes}
+use Rattle.model.proofs.Logic.{by-cases, clash, or-true-right}
 
 -- a tree of n marks may be d deep
 abbrev pub Deep : ℕ → ℕ → Type 0
@@ -125,3 +126,15 @@ passes-reach k = risePasses-reach k 0 k (let z : 0 + k ≡ k = omega arith in rw
 pub passes-least : (k p : ℕ) → k ≤ 2 ^ p → passes k ≤ p
 unfolding passes
 passes-least k p h = risePasses-low k 0 k p (omega arith) h
+
+-- a capacity that is not outside
+pub capacity-some : (C : ℕ) → capacityOutside C ≡ false → 1 ≤ C
+unfolding capacityOutside
+capacity-some C e = by-cases (eqb C 0) (λ t. clash (rw t) e) (λ t. omega (arith, eqb-false C 0 t))
+
+pub capacity-small : (C : ℕ) → capacityOutside C ≡ false → C ≤ 65536
+unfolding capacityOutside
+capacity-small C e =
+    by-cases (ltb largestCapacity C)
+    (λ t. clash (or-true-right (eqb C 0) (ltb largestCapacity C) t) e)
+    (λ t. ltb-false largestCapacity C t)

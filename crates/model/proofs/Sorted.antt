@@ -9,7 +9,7 @@ use Rattle.model.specs.Lists.{countIf, filterBy, removeFirst, insertSort
 use Rattle.model.specs.Axis.{Space, Axis}
 use Rattle.model.specs.Laws.{SameBag, SamenessLaws, Distinct, AxisLaws, All, nil, cons, Sorted, sorted[], sorted∷}
 use Rattle.model.proofs.Logic.{by-cases, clash}
-use Rattle.model.proofs.Lists.{all-left, all-right, all-map, all-filterBy, all-removeFirst, all-insertSorted, countIf-append, countIf-none, none-pass, sameBag-length, insertSorted-head, sort-countIf}
+use Rattle.model.proofs.Lists.{all-left, all-right, all-map, all-filterBy, all-removeFirst, all-insertSorted, countIf-append, countIf-none, none-pass, sameBag-length, insertSorted-head, sort-countIf, all-append}
 
 -- ordered lists
 module _ {M B : Type 0} {A : Axis M B} where
@@ -35,7 +35,12 @@ module _ {M B : Type 0} {A : Axis M B} where
   removeFirst-sorted q (sorted∷ {m = m} h s) =
       by-cases (q m) (λ t. rw t s) (λ f. rw f (sorted∷ (all-removeFirst q h) (removeFirst-sorted q s)))
 
-  -- an ordered list is insertLeaf in order as it is
+  -- what follows an ordered list and is above all of it is ordered with it
+  pub sorted-append : {l r : List M} → Sorted A l → Sorted A r → All (λ a. All (λ q. A .below a q ≡ true) r) l → Sorted A (l ++ r)
+  sorted-append sorted[] t h = t
+  sorted-append (sorted∷ k s) t (cons g h) = sorted∷ (all-append k g) (sorted-append s t h)
+
+  -- an ordered list put in order is as it was
   pub sort-id : {l : List M} → Sorted A l → sort (A .below) l ≡ l
   sort-id sorted[] = refl
   sort-id (sorted∷ {m = m} h s) = ap (insertSorted (A .below) m) (sort-id s) ∙ insertSorted-head (A .below) m h
@@ -66,6 +71,9 @@ module _ {M B : Type 0} {S : Space M B} (E : SamenessLaws S) where
 module _ {M B : Type 0} {S : Space M B} {A : Axis M B} (E : SamenessLaws S) (O : AxisLaws S A) where
   pub below-asym : (a b : M) → A .below a b ≡ true → A .below b a ≡ false
   below-asym a b e = by-cases (A .below b a) (λ t. clash (E .self a) (O .apart a a (O .trans a b a e t))) (λ f. f)
+
+  pub below-self : (m : M) → A .below m m ≡ false
+  below-self m = by-cases (A .below m m) (λ t. below-asym m m t) (λ f. f)
 
   pub below-apart : (a b : M) → A .below a b ≡ true → S .same b a ≡ false
   below-apart a b e = by-cases (S .same b a) (λ t. clash (same-sym E b a t) (O .apart a b e)) (λ f. f)

@@ -13,10 +13,10 @@ use Rattle.model.specs.Lists.{countIf, removeFirst, insertSorted}
 use Rattle.model.specs.Axis.{Space, Axis}
 use Rattle.model.specs.Register.{Register}
 use Rattle.model.specs.Tree.{Tree, leaf, node, weight, marks, marksOf, least, greatest, evenly, Balanced, withLeft, withRight, buildFrom, build, insertLeaf, strikeLeaf, rebalance}
-use Rattle.model.specs.Laws.{SamenessLaws, AxisLaws, All, cons, Sorted, sorted∷}
+use Rattle.model.specs.Laws.{SamenessLaws, AxisLaws, All, cons, Sorted, sorted∷, nil}
 use Rattle.model.proofs.Logic.{by-cases, and-left, and-right}
-use Rattle.model.proofs.Lists.{all-left, all-right, all-map, countIf-append, countIf-none, none-pass, insertSorted-left, insertSorted-right, removeFirst-left, removeFirst-right}
-use Rattle.model.proofs.Sorted.{sorted-left, sorted-right, sorted-across, below-asym, below-apart, insertSorted-sorted, removeFirst-sorted}
+use Rattle.model.proofs.Lists.{all-left, all-right, all-map, countIf-append, countIf-none, none-pass, insertSorted-left, insertSorted-right, removeFirst-left, removeFirst-right, all-append}
+use Rattle.model.proofs.Sorted.{sorted-left, sorted-right, sorted-across, below-asym, below-apart, insertSorted-sorted, removeFirst-sorted, sorted-append, below-self}
 
 module _ {M I : Type 0} where
   pub weight-pos : (t : Tree M I) → 0 < weight t
@@ -155,6 +155,31 @@ module _ {M B I : Type 0} (S : Space M B) (E : SamenessLaws S) (A : Axis M B) (O
   -- all beneath the left child are below a mark that is not below the right child's least
   pub left-all-below : (m : M) (l r : Tree M I) → A .below m (least r) ≡ false → Sorted A (marks l ++ marks r) → All (λ q. A .below q m ≡ true) (marks l)
   left-all-below m l r f s = all-map (λ q h. O .linear q (least r) m (all-least r h) f) (sorted-across (marks l) (marks r) s)
+
+  -- all beneath a node whose greatest is below m are below m; so a tree is ordered over two whose ends follow each other
+  all-below : (m : M) (t : Tree M I) → A .below (greatest t) m ≡ true → Sorted A (marks t) → All (λ q. A .below q m ≡ true) (marks t)
+  all-below m (leaf q) e s = cons e nil
+  all-below m (node i l r) e s =
+      let right : All (λ q. A .below q m ≡ true) (marks r) = all-below m r e (sorted-right (marks l) (marks r) s) in
+      let left = all-map (λ q h. O .trans q (least r) m (all-least r h) (all-least r right)) (sorted-across (marks l) (marks r) s) in
+      all-append left right
+
+  pub sorted-over : (l r : Tree M I) → Sorted A (marks l) → Sorted A (marks r) → A .below (greatest l) (least r) ≡ true → Sorted A (marks l ++ marks r)
+  sorted-over l r s t e = sorted-append s t (all-map (λ q h. all-above q r h t) (all-below (least r) l e s))
+
+  -- none beneath a node is below its least, nor above its greatest
+  pub none-below : (t : Tree M I) → Sorted A (marks t) → All (λ q. A .below q (least t) ≡ false) (marks t)
+  none-below (leaf m) s = cons (below-self E O m) nil
+  none-below (node i l r) s =
+      all-append (none-below l (sorted-left (marks l) (marks r) s))
+      (all-map (λ q e. below-asym E O (least l) q e) (all-least l (sorted-across (marks l) (marks r) s)))
+
+  pub none-above : (t : Tree M I) → Sorted A (marks t) → All (λ q. A .below (greatest t) q ≡ false) (marks t)
+  none-above (leaf m) s = cons (below-self E O m) nil
+  none-above (node i l r) s =
+      all-append
+      (all-map (λ q h. below-asym E O q (greatest r) (all-greatest r h)) (sorted-across (marks l) (marks r) s))
+      (none-above r (sorted-right (marks l) (marks r) s))
 
   module _ (R : Register M B I) where
     pub insert-marks : (m : M) (t : Tree M I) → Sorted A (marks t) → marks (insertLeaf A R m t) ≡ insertSorted (A .below) m (marks t)

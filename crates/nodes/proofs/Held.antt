@@ -12,6 +12,7 @@ use borrow.Author.Tests.{eq-eqb, ne-eqb, eqb-true, eqb-false}
 use Rattle.model.specs.Axis.{Axis}
 use Rattle.model.specs.Sheet.{Mark, Box}
 use Rattle.model.specs.Tree.{Tree, leaf, node, weight, marks, least, greatest}
+use Rattle.model.specs.Laws.{All, nil, cons}
 use Rattle.model.proofs.Logic.{by-cases}
 use Rattle.model.proofs.Lists.{countIf-append}
 use Rattle.model.proofs.Tree.{weight-marks, marks-pos, marks-least}
@@ -102,6 +103,11 @@ module _ {I : Type 0} {A : Axis Mark Box} {f : ℕ → Mark} {place : ℕ → �
     where
       either : {G : Type 0} (s : ℕ) → 0 < times s l + times s r → (0 < times s l → G) → (0 < times s r → G) → G
       either s h p q = by-cases (eqb (times s l) 0) (λ t. q (omega (arith, eqb-true (times s l) 0 t))) (λ u. p (omega (arith, eqb-false (times s l) 0 u)))
+
+-- what holds of each slot that stands in a list holds of all of it
+pub all-times : {P : ℕ → Type 0} (l : List ℕ) → ((s : ℕ) → 0 < timesIn s l → P s) → All P l
+all-times [] h = nil
+all-times (s ∷ l) h = cons (h s (rw (eq-eqb s s refl) (omega arith))) (all-times l (λ q k. h q (omega arith)))
 
 -- the arms that the code makes are the trees'
 pub leafArm-of : (s v : ℕ) → s ≤ 65536 → leafArm s v ≡ arm (2 * s) 1 v v

@@ -18,7 +18,7 @@ use Rattle.model.proofs.Logic.{by-cases}
 use Rattle.table.specs.Layout.{openPlace, capacityPlace, livePlace, rootPlace, usedPlace, placePlace}
 use Rattle.nodes.specs.Arms.{Arm, noArm, armAt, putArm}
 use Rattle.nodes.proofs.Spots.{arm-same, putArm-length, putArm-other, putArm-same}
-use Rattle.primary.specs.Sound.{capacityOf, liveOf, EachOnce, Holding}
+use Rattle.twofold.specs.Sound.{capacityOf, liveOf, EachOnce, Holding}
 use Rattle.primary.specs.Empty.{ownPlace, freeSlots♯, empty♯}
 use Rattle.primary.proofs.Slots.{each-once-by}
 

@@ -44,7 +44,7 @@ use Rattle.twofold.proofs.Same.{two-same}
 use Rattle.twofold.proofs.Marks.{SameOn, armOf-marks, two-marks, rules-marks, marksMain-marks}
 use Rattle.primary_insert.specs.Insert.{mainInsert♯}
 use Rattle.primary_insert.proofs.Inserting.{mainInsert-holds, mainInsert-first}
-use Rattle.primary.specs.Sound.{capacityOf, liveOf, usedAt, HoldsTree, TreeByRules, Holding}
+use Rattle.twofold.specs.Sound.{capacityOf, liveOf, usedAt, HoldsTree, TreeByRules, Holding}
 use Rattle.primary.specs.Insert.{entered, insertSlot, insertLive, tableInsert♯}
 use Rattle.primary.proofs.Settled.{settled-holds, settled-rules, settled-stands}
 use Rattle.primary.proofs.Searching.{holding-agrees, holding-small, holding-length}

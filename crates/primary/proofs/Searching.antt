@@ -2,29 +2,28 @@
 -- the visits and of the depth. Assumes nothing.
 use Prim.Native.Nat.{ℕ, _+_, _*_, _≤_, _<_}
 use mathlib.Core.Path.{_≡_, refl, sym, ap, subst, _∙_}
-use mathlib.Core.Bool.{Bool, false}
+use mathlib.Core.Bool.{Bool}
 use mathlib.Core.List.{List, [], _∷_, map}
 use mathlib.Core.Option.{Option, none, some}
 use native.Mathlib.Omega.{arith}
 use native.Mathlib.Nat.{mul-le-mul}
-use lib.Dec.{eqb, ltb}
 use lib.ListN.{length, length-map}
 use lib.Seq.{sets}
-use borrow.Author.Tests.{eq-eqb, eqb-false, ltb-false}
+use borrow.Author.Tests.{eq-eqb}
 use Rattle.model.specs.Lists.{countIf, filterBy, sort}
-use Rattle.model.specs.Sizes.{D, largestCapacity, capacityOutside}
+use Rattle.model.specs.Sizes.{D}
 use Rattle.model.specs.Tree.{weight, depth, marks, marksOf}
 use Rattle.model.specs.Sheet.{Mark, Box, same, holds, belowX, Main, main}
 use Rattle.model.specs.Laws.{SameBag}
-use Rattle.model.proofs.Logic.{by-cases, clash, or-true-right}
+use Rattle.model.proofs.Logic.{by-cases}
 use Rattle.model.proofs.Lists.{sameBag-length, sort-countIf, filterBy-length}
-use Rattle.model.proofs.Sizes.{D-rises}
+use Rattle.model.proofs.Sizes.{D-rises, capacity-some, capacity-small}
 use Rattle.model.proofs.Depth.{balanced-depth}
 use Rattle.model.proofs.Orders.{sheet-sameness, same-sound, alongX-laws}
 use Rattle.model.proofs.Sorted.{filterBy-sorted, sort-sorted, sorted-distinct, sorted-unique}
 use Rattle.model.proofs.Tree.{weight-marks}
 use Rattle.model.proofs.TwoFold.{Agrees, open-agrees, count-agrees, count-visits, list-agrees, list-visits}
-use Rattle.table.specs.Marks.{slotMark}
+use Rattle.table.specs.Marks.{slotMark, markWords}
 use Rattle.nodes.specs.Holds.{timesIn}
 use Rattle.table.specs.Tally.{mostVisits, pack}
 use Rattle.table.specs.After.{after}
@@ -32,27 +31,14 @@ use Rattle.nodes.proofs.Levels.{most-levels, held-shallow}
 use Rattle.twofold.specs.Rules.{SlotMain, slotMain, marksMain}
 use Rattle.twofold.proofs.Stands.{stands-marks, stands-count, stands-list}
 use Rattle.twofold.proofs.Agrees.{countIf-map, sameBag-map, rules-agrees}
-use Rattle.secondary_search.proofs.Listing.{markWords}
 use Rattle.primary_search.specs.Find.{absent, find♯}
 use Rattle.primary_search.specs.Count.{mainCount♯}
 use Rattle.primary_search.specs.List.{mainList♯}
 use Rattle.primary_search.proofs.Finding.{find-none, find-holds, find-absent}
 use Rattle.primary_search.proofs.Counting.{count-none, count-main-holds}
 use Rattle.primary_search.proofs.Listing.{mainMet, mainMet-listed, list-none, list-main-holds}
-use Rattle.primary.specs.Sound.{capacityOf, HoldsTree, TreeByRules, Holding}
-use Rattle.primary.proofs.Slots.{live-slots, live-within}
-
--- a capacity that is not outside
-pub capacity-some : (C : ℕ) → capacityOutside C ≡ false → 1 ≤ C
-unfolding capacityOutside
-capacity-some C e = by-cases (eqb C 0) (λ t. clash (rw t) e) (λ t. omega (arith, eqb-false C 0 t))
-
-pub capacity-small : (C : ℕ) → capacityOutside C ≡ false → C ≤ 65536
-unfolding capacityOutside
-capacity-small C e =
-    by-cases (ltb largestCapacity C)
-    (λ t. clash (or-true-right (eqb C 0) (ltb largestCapacity C) t) e)
-    (λ t. ltb-false largestCapacity C t)
+use Rattle.twofold.specs.Sound.{capacityOf, HoldsTree, TreeByRules, Holding}
+use Rattle.twofold.proofs.Sound.{live-slots, live-within}
 
 countIf-length : {M : Type 0} (p : M → Bool) (l : List M) → countIf p l ≤ length l
 countIf-length p [] = omega arith

@@ -12,7 +12,7 @@ use Rattle.nodes.specs.Holds.{armOf}
 use Rattle.twofold.specs.Rules.{SlotMain, ByRules, marksMain}
 use Rattle.twofold.specs.TwoFold.{TwoFold}
 use Rattle.twofold.proofs.Marks.{SameOn, armOf-marks, two-marks, rules-marks, marksMain-marks}
-use Rattle.primary.specs.Sound.{capacityOf, HoldsTree, TreeByRules}
+use Rattle.twofold.specs.Sound.{capacityOf, HoldsTree, TreeByRules}
 
 -- A tree that words hold by marks g, which are those of its slots, they hold by their own marks.
 module _ {g : ℕ → Mark} {C : ℕ} {ys : List ℕ} (t : SlotMain) (is : armAt ys rootPlace ≡ armOf alongX g t) (two : TwoFold g C 0 ys t) (rules : ByRules g t) where

@@ -8,26 +8,22 @@ use mathlib.Core.Logic.{_⊎_, inl, inr}
 use mathlib.Core.Option.{Option, none, some}
 use native.Mathlib.Omega.{arith}
 use lib.Dec.{ltb, eqb}
-use lib.ListN.{length, getD, set, length-set, length-map}
+use lib.ListN.{length, getD, set, length-set}
 use lib.Seq.{getD-set-same, getD-set-other}
 use borrow.Author.Tests.{lt-ltb, le-ltb, ltb-true, ltb-false, eq-eqb, ne-eqb, eqb-true, eqb-false}
 use Rattle.model.specs.Lists.{indicator}
 use Rattle.model.specs.Tree.{marksOf}
-use Rattle.model.specs.Sheet.{Main}
 use Rattle.model.proofs.Logic.{by-cases}
-use Rattle.model.proofs.Tree.{weight-marks}
 use Rattle.table.specs.Layout.{capacityPlace, livePlace, rootPlace, slotPlace, mainPlace, usedPlace, placePlace, runPlace}
 use Rattle.table.specs.Marks.{slotMark}
 use Rattle.nodes.specs.Arms.{armAt}
 use Rattle.nodes.specs.Holds.{timesIn}
 use Rattle.nodes.proofs.Frames.{slotMark-same}
-use Rattle.nodes.proofs.Held.{held-weight}
 use Rattle.nodes.proofs.Spots.{arm-same}
 use Rattle.twofold.specs.Rules.{SlotMain, ByRules, marksMain}
 use Rattle.twofold.specs.TwoFold.{TwoFold}
 use Rattle.twofold.proofs.Same.{two-same}
-use Rattle.twofold.proofs.Stands.{stands-marks}
-use Rattle.primary.specs.Sound.{capacityOf, liveOf, usedAt, placeAt, HoldsTree, TreeByRules, EachOnce, Holding}
+use Rattle.twofold.specs.Sound.{capacityOf, liveOf, usedAt, placeAt, HoldsTree, TreeByRules, EachOnce}
 use Rattle.primary.specs.Strike.{exchanged, freeWithin, freeSlot♯}
 use Rattle.primary.proofs.Settled.{settled-holds, settled-rules, settled-stands}
 
@@ -331,18 +327,6 @@ each-once-strike {xs = xs} {zs = zs} {o = o} {o′ = o′} k many e s own full o
       each-once-freed (each-once-same k many e) s (subst (λ c. s < c) cap own) (rw (k .capacity, many) full) one (rw (k .capacity) room) less,
       freeSlot-live s zs (omega arith) ∙ ap (λ n. n - 1) many,
     )
-
--- the live marks are the slots of the tree, and so no more than the capacity
-pub live-slots : {xs : List ℕ} {T : Main} (h : Holding xs T) → liveOf xs ≡ length (marksOf (h .slots))
-live-slots {xs = xs} h =
-    h .live ∙ ap (λ T. length (marksOf T)) (sym (h .stands)) ∙ ap length (stands-marks (slotMark xs) (h .slots)) ∙ length-map (marksOf (h .slots)) (slotMark xs)
-
-pub live-within : {xs : List ℕ} {T : Main} → Holding xs T → liveOf xs ≤ capacityOf xs
-live-within {xs = xs} h = rw (live-slots h) (go (h .slots) (h .holds))
-  where
-    go : (o : Option SlotMain) → HoldsTree xs o → length (marksOf o) ≤ capacityOf xs
-    go none k = omega arith
-    go (some t) k = omega (arith, weight-marks t, held-weight (k .1 .main))
 
 -- so the freeing of a slot keeps the marks, the tree and its rules
 module _ {s : ℕ} {zs : List ℕ} (a : Freeing s zs) where

@@ -34,9 +34,10 @@ use Rattle.secondary_update.proofs.Striking.{strike-leads, struckNode, leads-st
 use Rattle.primary_search.specs.Find.{find♯}
 use Rattle.primary_strike.specs.Strike.{mainStrike♯}
 use Rattle.primary_strike.proofs.Striking.{mainStrike-holds, mainStrike-lone}
-use Rattle.primary.specs.Sound.{capacityOf, liveOf, HoldsTree, TreeByRules, EachOnce, Holding}
+use Rattle.twofold.specs.Sound.{capacityOf, liveOf, HoldsTree, TreeByRules, EachOnce, Holding}
+use Rattle.twofold.proofs.Sound.{live-within}
 use Rattle.primary.specs.Strike.{freeSlot♯, struck, tableStrike♯}
-use Rattle.primary.proofs.Slots.{SameLists, Freeing, freeing, each-once-same, each-once-strike, live-within}
+use Rattle.primary.proofs.Slots.{SameLists, Freeing, freeing, each-once-same, each-once-strike}
 use Rattle.primary.proofs.Slots.{freeSlot-other, freeSlot-length, freeSlot-capacity, freeSlot-holds, freeSlot-rules, freeSlot-stands}
 use Rattle.primary.proofs.Searching.{holding-agrees, holding-small, find-sound}
 use Rattle.primary.proofs.Settled.{settled-holds, settled-rules, settled-stands}

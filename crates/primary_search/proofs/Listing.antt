@@ -21,7 +21,7 @@ use Rattle.model.proofs.Logic.{by-cases}
 use Rattle.model.proofs.Lists.{countIf-append}
 use Rattle.model.proofs.Tree.{weight-pos}
 use Rattle.table.specs.Layout.{capacityPlace, rootPlace, levelPlace, listPlace}
-use Rattle.table.specs.Marks.{slotMark, putMark}
+use Rattle.table.specs.Marks.{slotMark, putMark, markWords}
 use Rattle.nodes.specs.Arms.{armAt}
 use Rattle.nodes.specs.Holds.{armOf}
 use Rattle.table.specs.Tally.{pack}
@@ -30,7 +30,7 @@ use Rattle.nodes.proofs.Levels.{held-shallow}
 use Rattle.table.proofs.Tallies.{visited-pack, pack-visits, pack-found}
 use Rattle.twofold.specs.Rules.{SlotAuxiliary, SlotMain, slotAuxiliary, slotMain, AuxiliaryOf, AuxiliariesOf, ByRules}
 use Rattle.twofold.specs.TwoFold.{TwoFold}
-use Rattle.secondary_search.proofs.Listing.{markWords, written, written-append, met, met-listed, carriesBag-carries, list-holds}
+use Rattle.secondary_search.proofs.Listing.{written, written-append, met, met-listed, carriesBag-carries, list-holds}
 use Rattle.primary_search.specs.List.{listMark, listLeaf♯, listChildren, listInner, listArm, listBeneath♯, listRoot, mainList♯}
 use Rattle.twofold.proofs.Over.{deeper-level, top-level}
 use Rattle.primary_search.proofs.Ready.{ReadyNode, Ready, inside-settled, ready}

@@ -1,8 +1,8 @@
 -- What the searches ask of the words of a two-fold tree, node by node: the words hold it and it is by the rules. Assumes nothing.
-use Prim.Native.Nat.{ℕ, suc, _≤_, _<_}
+use Prim.Native.Nat.{ℕ, suc, _≤_}
 use mathlib.Core.Path.{_≡_, refl, sym, subst, _∙_}
 use mathlib.Core.Bool.{true}
-use mathlib.Core.List.{List, [], _∷_, _++_}
+use mathlib.Core.List.{List, _++_}
 use mathlib.Core.Option.{some, Option·some-injective}
 use native.Mathlib.Omega.{arith}
 use borrow.Author.Tests.{eq-eqb}
@@ -11,7 +11,7 @@ use Rattle.model.specs.Tree.{Tree, leaf, node, depth, marks, least, Balanced}
 use Rattle.model.specs.Search.{inside}
 use Rattle.model.specs.Sheet.{Mark, Box, sheet, alongX, alongY}
 use Rattle.model.specs.Slots.{slotSpace, slotAxis}
-use Rattle.model.specs.Laws.{All, nil, cons, SameBag, Sorted}
+use Rattle.model.specs.Laws.{SameBag, Sorted}
 use Rattle.model.proofs.Lists.{all-alike}
 use Rattle.model.proofs.Sorted.{sorted-left, sorted-right}
 use Rattle.model.proofs.Search.{inside-onSide}
@@ -20,8 +20,8 @@ use Rattle.model.proofs.Slots.{slotAxis-laws}
 use Rattle.table.specs.Layout.{mainPlace, auxiliaryPlace, levelPlace, recordPlace}
 use Rattle.table.specs.Marks.{slotMark}
 use Rattle.nodes.specs.Arms.{arms, armAt, recordAt}
-use Rattle.nodes.specs.Holds.{armOf, Holds, timesIn, CarriesBag}
-use Rattle.nodes.proofs.Held.{held-left, held-right}
+use Rattle.nodes.specs.Holds.{armOf, Holds, CarriesBag}
+use Rattle.nodes.proofs.Held.{held-left, held-right, all-times}
 use Rattle.nodes.proofs.Levels.{held-shallow}
 use Rattle.twofold.specs.Rules.{SlotAuxiliary, SlotMain, AuxiliaryOf, ByRules}
 use Rattle.twofold.specs.TwoFold.{HoldsAuxiliary, TwoFold}
@@ -29,9 +29,6 @@ use Rattle.secondary_search.proofs.Counting.{Settled}
 use Rattle.secondary_search.proofs.Listing.{Marked}
 
 -- what holds of each slot that stands in a list holds of all of it
-pub all-timesIn : {P : ℕ → Type 0} (l : List ℕ) → ((s : ℕ) → 0 < timesIn s l → P s) → All P l
-all-timesIn [] h = nil
-all-timesIn (s ∷ l) h = cons (h s (rw (eq-eqb s s refl) (omega arith))) (all-timesIn l (λ q k. h q (omega arith)))
 
 module _ (f : ℕ → Mark) (C : ℕ) (xs : List ℕ) where
   -- the auxiliary tree of the main node of that name at depth d, over the slots of l
@@ -70,7 +67,7 @@ module _ (f : ℕ → Mark) (C : ℕ) (xs : List ℕ) where
           is = h .is;
           arm = h .arm;
           records = h .held .records;
-          marked = all-timesIn (marks (h .tree)) (h .held .marked);
+          marked = all-times (marks (h .tree)) (h .held .marked);
           bag = subst (λ t. SameBag (marks t) l) e (k .bag);
           carries = subst CarriesBag e (k .carries);
           shallow = held-shallow (h .held) (subst Balanced e (k .balanced)) small;

@@ -22,20 +22,16 @@ use Rattle.model.proofs.Lists.{all-left, all-right, countIf-append, sameBag-len
 use Rattle.model.proofs.Slots.{map-append}
 use Rattle.model.proofs.Tree.{weight-pos, weight-marks, nodes, nodes-weight}
 use Rattle.table.specs.Layout.{recordPlace, listPlace}
-use Rattle.table.specs.Marks.{slotMark, putMark}
+use Rattle.table.specs.Marks.{slotMark, putMark, markWords}
 use Rattle.nodes.specs.Arms.{arms, recordAt}
 use Rattle.nodes.specs.Holds.{number, armOf, Holds, CarriesBag}
 use Rattle.table.specs.Tally.{visited, lost, pack}
 use Rattle.table.specs.After.{After, after}
 use Rattle.nodes.proofs.Frames.{sets-append}
+use Rattle.table.proofs.Lists.{markWords-append, markWords-length}
 use Rattle.table.proofs.Tallies.{visited-pack, pack-visits, pack-found}
 use Rattle.secondary_search.specs.List.{walkLeaf, walkRecord, walkNode, walk♯, listRecord, listNode, list♯}
 use Rattle.secondary_search.proofs.Counting.{Carries, leaf-clear, Settled, settled-holds}
-
--- the words of marks in a list
-abbrev pub markWords : List Mark → List ℕ
-markWords [] = []
-markWords (m ∷ l) = m .x ∷ m .y ∷ m .tag ∷ markWords l
 
 module _ (f : ℕ → Mark) where
   -- the words have the marks of a tree's slots
@@ -57,14 +53,6 @@ module _ (f : ℕ → Mark) where
     met (node i l r) =
         if inside (slotAxis f alongY) b (node i l r) then marks l ++ marks r
         else (if clear (slotAxis f alongY) b (node i l r) then [] else met l ++ met r)
-
-markWords-append : (l r : List Mark) → markWords (l ++ r) ≡ markWords l ++ markWords r
-markWords-append [] r = refl
-markWords-append (m ∷ l) r = rw (markWords-append l r)
-
-markWords-length : (l : List Mark) → length (markWords l) ≡ 3 * length l
-markWords-length [] = refl
-markWords-length (m ∷ l) = omega (arith, markWords-length l)
 
 pub written-append : (f : ℕ → Mark) (k : ℕ) (l r ys : List ℕ) → written f k (l ++ r) ys ≡ written f (k + length l) r (written f k l ys)
 written-append f k l r ys =

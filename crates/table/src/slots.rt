@@ -3,14 +3,13 @@ ghost use mathlib.Core.Path.{_≡_};
 ghost use Prim.Native.Nat.{_<_, _^_};
 ghost use Rattle.geometry.specs.Values.{markValue};
 ghost use Rattle.table.specs.Layout.{slotPlace, listPlace};
-ghost use Rattle.table.specs.Marks.{slotMark, putMark};
+ghost use Rattle.table.specs.Marks.{markAt, slotMark, listMark, putMark};
 use geometry::Mark;
 
-// The mark in slot s.
-pub fn mark_at(t: &[u32], s: u32) -> Mark
-    ensures { λ r. ⌜ markValue r ≡ slotMark (now (t .entry)) s ⌝ }
+fn read_mark(t: &[u32], at: usize) -> Mark
+    requires { ⌜ at < 2 ^ 40 ⌝ }
+    ensures { λ r. ⌜ markValue r ≡ markAt (now (t .entry)) at ⌝ }
 {
-    let at = 64 + 16 * (s as usize);
     if at + 3 <= t.len() {
         Mark {
             x: t[at],
@@ -20,6 +19,20 @@ pub fn mark_at(t: &[u32], s: u32) -> Mark
     } else {
         Mark { x: 0, y: 0, tag: 0 }
     }
+}
+
+// The mark in slot s.
+pub fn mark_at(t: &[u32], s: u32) -> Mark
+    ensures { λ r. ⌜ markValue r ≡ slotMark (now (t .entry)) s ⌝ }
+{
+    read_mark(t, 64 + 16 * (s as usize))
+}
+
+// The mark at the place k of a list, three words a mark.
+pub fn listed(list: &[u32], k: u32) -> Mark
+    ensures { λ r. ⌜ markValue r ≡ listMark (now (list .entry)) k ⌝ }
+{
+    read_mark(list, 3 * (k as usize))
 }
 
 fn put_mark(t: &mut [u32], at: usize, m: Mark)
@@ -40,7 +53,7 @@ pub fn put_slot(t: &mut [u32], s: u32, m: Mark)
     put_mark(t, 64 + 16 * (s as usize), m);
 }
 
-// Puts a mark at the place k of a list, three words a mark.
+// Puts a mark there.
 pub fn put_listed(list: &mut [u32], k: u32, m: Mark)
     ensures { λ _. ⌜ now (list .exit) ≡ putMark (now (list .entry)) (listPlace k) (markValue m) ⌝ }
 {

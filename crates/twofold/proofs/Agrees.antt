@@ -12,7 +12,8 @@ use Rattle.model.specs.Register.{innermost}
 use Rattle.model.specs.Tree.{Tree, leaf, node, marks, Balanced}
 use Rattle.model.specs.Sheet.{Mark, Box, sheet, alongX, alongY, Auxiliary, auxiliary}
 use Rattle.model.specs.Slots.{slotAxis, mapTree}
-use Rattle.model.specs.Laws.{SameBag, All, nil, cons, Sorted, sorted[], sorted∷}
+use Rattle.model.specs.Laws.{SameBag, Sorted, sorted[], sorted∷}
+use Rattle.model.proofs.Lists.{all-mapped}
 use Rattle.model.proofs.Orders.{sheet-sameness, alongX-laws, alongY-laws}
 use Rattle.model.proofs.Slots.{map-append, map-weight, map-marks}
 use Rattle.model.proofs.Carried.{Carried}
@@ -30,13 +31,9 @@ module _ (f : ℕ → Mark) where
   pub sameBag-map : (l k : List ℕ) → SameBag l k → SameBag (map f l) (map f k)
   sameBag-map l k e p = countIf-map p l ∙ e (λ s. p (f s)) ∙ sym (countIf-map p k)
 
-  all-mapped : {P : Mark → Type 0} {l : List ℕ} → All (λ s. P (f s)) l → All P (map f l)
-  all-mapped nil = nil
-  all-mapped (cons p h) = cons p (all-mapped h)
-
   sorted-map : {A : Axis Mark Box} {l : List ℕ} → Sorted (slotAxis f A) l → Sorted A (map f l)
   sorted-map sorted[] = sorted[]
-  sorted-map (sorted∷ h s) = sorted∷ (all-mapped h) (sorted-map s)
+  sorted-map (sorted∷ h s) = sorted∷ (all-mapped f h) (sorted-map s)
 
   balanced-map : {I J : Type 0} (g : I → J) (t : Tree ℕ I) → Balanced t → Balanced (mapTree f g t)
   balanced-map g (leaf s) b = tt

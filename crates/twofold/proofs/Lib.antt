@@ -8,3 +8,4 @@ pub mod Stands
 pub mod Agrees
 pub mod Marks
 pub mod Same
+pub mod Sound

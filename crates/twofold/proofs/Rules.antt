@@ -29,7 +29,7 @@ use Rattle.nodes.specs.Holds.{timesIn, times, CarriesBag}
 use Rattle.twofold.specs.Rules.{SlotAuxiliary, SlotMain, slotAuxiliary, AuxiliaryOf, AuxiliariesOf, ByRules}
 
 -- Slots that pass a test: no fewer than one slot of them, and than two.
-times-pass : (p : ℕ → Bool) (s : ℕ) → p s ≡ true → (l : List ℕ) → timesIn s l ≤ countIf p l
+pub times-pass : (p : ℕ → Bool) (s : ℕ) → p s ≡ true → (l : List ℕ) → timesIn s l ≤ countIf p l
 times-pass p s e [] = omega arith
 times-pass p s e (q ∷ l) =
     by-cases (eqb s q)
