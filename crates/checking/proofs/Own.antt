@@ -1,0 +1,68 @@
+-- What the words say where 3 does not apply, that it does not apply where they say so, and the tests as the code makes them. Assumes nothing.
+use Prim.Native.Nat.{ℕ, _+_, _*_, _≤_}
+use mathlib.Core.Path.{_≡_}
+use mathlib.Core.Bool.{true, false, not}
+use mathlib.Core.List.{List}
+use native.Mathlib.Omega.{arith}
+use native.Mathlib.Nat.{mul-le-mul-right}
+use lib.Dec.{ltb, eqb}
+use lib.ListN.{length, getD}
+use borrow.Author.Tests.{le-ltb, ltb-false, eq-eqb, eqb-true, not-false}
+use Rattle.model.specs.Lists.{if_then_else_}
+use Rattle.model.specs.Sizes.{D, W, capacityOutside}
+use Rattle.model.proofs.Logic.{by-cases, or-neither}
+use Rattle.model.proofs.Sizes.{capacity-some}
+use Rattle.sizes.specs.Sizes.{wordsFor}
+use Rattle.table.specs.Layout.{openPlace}
+use Rattle.twofold.specs.Sound.{capacityOf, liveOf}
+use Rattle.checking.specs.Header.{notTable, ownWords}
+
+-- the words that a table needs are no fewer than the 96 of the first test
+W-least : (c : ℕ) → 1 ≤ c → 96 ≤ W c
+unfolding W
+W-least c h = omega (arith, mul-le-mul-right {m = 1} {n = c} (32 + 16 * D c) h)
+
+module _ (xs : List ℕ) where
+  pub own-table : (ownWords xs ≡ 0 → ⊥)
+      → (getD xs openPlace 0 ≡ 1) × (capacityOutside (capacityOf xs) ≡ false) × (liveOf xs ≤ capacityOf xs) × (ownWords xs ≡ W (capacityOf xs))
+      × (W (capacityOf xs) ≤ length xs)
+  unfolding ownWords notTable
+  own-table h =
+      by-cases (notTable xs)
+      (λ t. absurd (h (rw t)))
+      (λ f.
+      let a = or-neither (ltb (length xs) 96) _ f in
+      let b = or-neither (not (eqb (getD xs openPlace 0) 1)) _ (a .1) in
+      let c = or-neither (capacityOutside (capacityOf xs)) _ (b .1) in
+      let d = or-neither (ltb (length xs) (W (capacityOf xs))) (ltb (capacityOf xs) (liveOf xs)) (c .1) in (
+        eqb-true (getD xs openPlace 0) 1 (not-false (eqb (getD xs openPlace 0) 1) (b .0)),
+        c .0,
+        ltb-false (capacityOf xs) (liveOf xs) (d .1),
+        rw f,
+        ltb-false (length xs) (W (capacityOf xs)) (d .0),
+      ))
+
+  pub table-own : getD xs openPlace 0 ≡ 1 → capacityOutside (capacityOf xs) ≡ false → liveOf xs ≤ capacityOf xs → W (capacityOf xs) ≤ length xs
+      → (ownWords xs ≡ W (capacityOf xs)) × (1 ≤ W (capacityOf xs))
+  unfolding ownWords notTable
+  table-own isOpen within live long =
+      let least = W-least (capacityOf xs) (capacity-some (capacityOf xs) within) in (
+        rw (
+          le-ltb (length xs) 96 (omega arith),
+          eq-eqb (getD xs openPlace 0) 1 isOpen,
+          within,
+          le-ltb (length xs) (W (capacityOf xs)) long,
+          le-ltb (capacityOf xs) (liveOf xs) live,
+        ),
+        omega arith,
+      )
+
+  -- no words are needed for a capacity out of range, so the code does not ask for the capacity itself
+  pub own-words : 96 ≤ length xs → eqb (getD xs openPlace 0) 1 ≡ true
+      → ownWords xs ≡ (if ltb (length xs) (wordsFor (capacityOf xs)) then 0 else (if ltb (capacityOf xs) (liveOf xs) then 0 else wordsFor (capacityOf xs)))
+  unfolding ownWords notTable
+  own-words h isOpen =
+      rw (le-ltb (length xs) 96 h, isOpen) (
+      by-cases (capacityOutside (capacityOf xs))
+      (λ t. rw (t, le-ltb (length xs) 0 (omega arith)) (by-cases (ltb (capacityOf xs) (liveOf xs)) (λ u. rw u) (λ u. rw u)))
+      (λ f. rw f (by-cases (ltb (length xs) (W (capacityOf xs))) (λ u. rw u) (λ u. rw u))))

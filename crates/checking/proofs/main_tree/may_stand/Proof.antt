@@ -1,0 +1,53 @@
+use borrow.Author.Needs.{needs}
+use Rattle.checking.proofs.main_tree.may_stand.Statement.{statement}
+use Rattle.checking.specs.Trees.{mainSlot♯}
+use Rattle.checking.proofs.main_tree.may_stand.Tie as tie
+use Rattle.checking.proofs.main_tree.may_stand.Reads as reads
+use Rattle.checking.proofs.main_tree.may_stand.Lts as lts
+use Rattle.checking.proofs.main_tree.outside.Reads as outside-reads
+use Rattle.checking.proofs.slots.is_live.Reads as is-live-reads
+use Rattle.table.proofs.slots.mark_at.Reads as mark-at-reads
+
+-- src/main_tree.rt:33:8
+is-live-requires : tie.Need-is-live-requires
+is-live-requires c κs = search needs
+
+-- src/main_tree.rt:34:20
+mark-at-requires : tie.Need-mark-at-requires
+mark-at-requires c κs = search needs
+
+-- src/main_tree.rt:34:12
+outside-requires : tie.Need-outside-requires
+outside-requires c κs = search needs
+
+-- src/main_tree.rt:35:13
+returns : tie.Need-returns
+unfolding mainSlot♯
+returns c = rw (
+  ← c .before .before .before .before .is-live .ensures,
+  c .before .before .before .if1 .taken,
+  ← c .before .before .mark-at .ensures,
+  ← c .before .outside .ensures,
+  c .if2 .taken,
+)
+
+-- src/main_tree.rt:37:9
+returns-2 : tie.Need-returns-2
+unfolding mainSlot♯
+returns-2 c = rw (
+  ← c .before .before .before .before .is-live .ensures,
+  c .before .before .before .if1 .taken,
+  ← c .before .before .mark-at .ensures,
+  ← c .before .outside .ensures,
+  c .if2 .left,
+)
+
+-- src/main_tree.rt:30:1
+returns-3 : tie.Need-returns-3
+unfolding mainSlot♯
+returns-3 c = rw (← c .before .is-live .ensures, c .if1 .left)
+
+pub may-stand-spec : {M : Type 1} → statement M
+may-stand-spec =
+    tie.close
+    (tie.spec is-live-requires mark-at-requires outside-requires returns returns-2 returns-3)

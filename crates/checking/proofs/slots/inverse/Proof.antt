@@ -1,0 +1,77 @@
+use Prim.Native.Nat.{ℕ, _<_, _≤_}
+use mathlib.Core.Path.{_≡_}
+use native.Mathlib.Omega.{arith}
+use Rattle.checking.proofs.slots.inverse.Statement.{statement}
+use Rattle.checking.specs.Slots.{inverse♯, inverse♯-zero, inverse♯-suc}
+use borrow.Author.Needs.{needs}
+use Rattle.checking.proofs.slots.inverse.Tie as tie
+use Rattle.checking.proofs.slots.inverse.Reads as reads
+use Rattle.checking.proofs.slots.inverse.Lts as lts
+use Rattle.checking.proofs.slots.placed.Reads as placed-reads
+
+positive : (n : ℕ) → 0 < n → n ≡ 0 → ⊥
+positive n h e = omega arith
+
+nothing : (n : ℕ) → n ≤ 0 → n ≡ 0
+nothing n h = omega arith
+
+abbrev Inv-loop : tie.InvT-loop
+Inv-loop t capacity left₀ left = (left ≤ capacity) × (inverse♯ left capacity t ≡ inverse♯ capacity capacity t)
+
+abbrev μ-loop : tie.MeasureT-loop
+μ-loop t capacity left₀ left = left
+
+-- src/slots.rt:32:5
+loop-holds : tie.Need-loop-holds Inv-loop μ-loop
+loop-holds c = search needs
+
+-- src/slots.rt:33:9
+sub-left : tie.Need-sub-left Inv-loop μ-loop
+sub-left c = search needs
+
+-- src/slots.rt:34:12
+placed-requires : tie.Need-placed-requires Inv-loop μ-loop
+placed-requires c κs = search needs
+
+-- src/slots.rt:32:5
+loop-less : tie.Need-loop-less Inv-loop μ-loop
+loop-less c = omega (arith, c .before .before .loop-test .taken)
+
+-- src/slots.rt:32:5
+loop-again : tie.Need-loop-again Inv-loop μ-loop
+loop-again c = (
+  omega (arith, c .before .before .before .loop .inv .0),
+  rw (
+    ← c .before .before .before .loop .inv .1,
+    inverse♯-suc _ (positive _ (c .before .before .loop-test .taken)),
+    ← c .before .placed .ensures,
+    c .if1 .taken,
+  ),
+)
+
+-- src/slots.rt:36:13
+returns : tie.Need-returns Inv-loop μ-loop
+returns c = rw (
+  ← c .before .before .before .loop .inv .1,
+  inverse♯-suc _ (positive _ (c .before .before .loop-test .taken)),
+  ← c .before .placed .ensures,
+  c .if1 .left,
+)
+
+-- src/slots.rt:28:1
+returns-2 : tie.Need-returns-2 Inv-loop μ-loop
+returns-2 c = rw (← c .before .loop .inv .1, inverse♯-zero _ (nothing _ (c .loop-test .left)))
+
+pub inverse-spec : {M : Type 1} → statement M
+inverse-spec =
+    tie.close
+    (tie.spec
+    Inv-loop
+    μ-loop
+    loop-holds
+    sub-left
+    placed-requires
+    loop-less
+    loop-again
+    returns
+    returns-2)

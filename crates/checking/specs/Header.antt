@@ -1,0 +1,23 @@
+-- "any other call, table: 3: shorter than 96 words, word 0 not 1, C outside its range, shorter than W(C), or live above C" (document 01, "Where each call
+-- may stop"). Assumes nothing.
+use Prim.Native.Nat.{ℕ}
+use mathlib.Core.Bool.{Bool, not, _||_}
+use mathlib.Core.List.{List}
+use lib.Dec.{ltb, eqb}
+use lib.ListN.{length, getD}
+use Rattle.model.specs.Lists.{if_then_else_}
+use Rattle.model.specs.Sizes.{W, capacityOutside}
+use Rattle.table.specs.Layout.{openPlace}
+use Rattle.twofold.specs.Sound.{capacityOf, liveOf}
+
+unfoldable pub notTable : List ℕ → Bool
+notTable xs =
+    ltb (length xs) 96
+    || (not (eqb (getD xs openPlace 0) 1)
+    || (capacityOutside (capacityOf xs)
+    || (ltb (length xs) (W (capacityOf xs))
+    || ltb (capacityOf xs) (liveOf xs))))
+
+-- the table's own words; 0 where 3 applies
+unfoldable pub ownWords : List ℕ → ℕ
+ownWords xs = if notTable xs then 0 else W (capacityOf xs)
