@@ -3,18 +3,13 @@
 #ifndef MODEL_H
 #define MODEL_H
 
-#include <stdint.h>
-#include <stdlib.h>
+#include "marks.h"
 
-struct mark {
-    uint32_t x, y, tag;
-};
+#include <stdlib.h>
 
 struct box {
     uint32_t x1, x2, y1, y2;
 };
-
-enum axis { ALONG_X, ALONG_Y };
 
 struct node {
     enum axis axis;
@@ -25,14 +20,6 @@ struct node {
 struct found {
     uint32_t count, visits;
 };
-
-static int below(enum axis axis, struct mark a, struct mark b) {
-    uint32_t p[] = {axis == ALONG_X ? a.x : a.y, axis == ALONG_X ? a.y : a.x, a.tag};
-    uint32_t q[] = {axis == ALONG_X ? b.x : b.y, axis == ALONG_X ? b.y : b.x, b.tag};
-    for (int i = 0; i < 3; i++)
-        if (p[i] != q[i]) return p[i] < q[i];
-    return 0;
-}
 
 static int same_mark(struct mark a, struct mark b) { return a.x == b.x && a.y == b.y && a.tag == b.tag; }
 
@@ -59,11 +46,6 @@ static struct node *make(enum axis axis, struct mark m, struct node *left, struc
     if (t == NULL) abort();
     *t = (struct node){axis, m, left, right, auxiliary};
     return t;
-}
-
-static int by_x(const void *a, const void *b) {
-    const struct mark *p = a, *q = b;
-    return below(ALONG_X, *p, *q) ? -1 : below(ALONG_X, *q, *p);
 }
 
 static int by_y(const void *a, const void *b) {

@@ -1,13 +1,14 @@
 #define _POSIX_C_SOURCE 200809L
 /* Random runs on whole tables beside a plain list of marks and an independent model (model.h), and damaged tables between guard words. */
 #include "check.h"
+#include "lent.h"
 #include "model.h"
 
 #include <string.h>
 #include <unistd.h>
 
-enum { HEADER = 64, GUARD = 64, MOST = 11781, ABSENT = -1 };
-static const uint32_t NO_SLOT = UINT32_MAX - 1, GUARD_WORD = 0xA5A55A5A;
+enum { MOST = 11781, ABSENT = -1 };
+static const uint32_t NO_SLOT = UINT32_MAX - 1;
 
 void trial_empty(uint32_t *table, size_t words, uint32_t capacity);
 uint32_t trial_find(const uint32_t *table, size_t words, uint32_t x, uint32_t y, uint32_t tag);
@@ -16,50 +17,11 @@ uint32_t trial_strike(uint32_t *table, size_t words, uint32_t x, uint32_t y, uin
 uint64_t trial_count(const uint32_t *table, size_t words, uint32_t x1, uint32_t x2, uint32_t y1, uint32_t y2);
 uint64_t trial_list(const uint32_t *table, size_t words, uint32_t x1, uint32_t x2, uint32_t y1, uint32_t y2, uint32_t *list, size_t list_words, uint32_t most);
 
-static uint64_t state = 88172645463325252u;
 static unsigned long calls, wrong, rebuilds;
-
-static uint32_t draw(uint32_t n) {
-    state ^= state << 13;
-    state ^= state >> 7;
-    state ^= state << 17;
-    return (uint32_t)((state >> 16) % n);
-}
 
 static void expect(int right) {
     calls++;
     if (!right && wrong++ == 0) fprintf(stderr, "call %lu differs\n", calls);
-}
-
-/* W(C): 64 + C (32 + 16 D), D the largest with 4^D <= 3^D C. */
-static size_t words_for(uint32_t capacity) {
-    double ratio = 1;
-    size_t d = 0;
-    while (ratio * 4 <= 3.0 * capacity) {
-        ratio = ratio * 4 / 3;
-        d++;
-    }
-    return HEADER + capacity * (32 + 16 * d);
-}
-
-/* A lent run between guard words. */
-struct lent {
-    uint32_t *all, *table;
-    size_t words;
-};
-
-static struct lent lend(size_t words) {
-    struct lent t = {malloc((words + 2 * GUARD) * sizeof(uint32_t)), NULL, words};
-    if (t.all == NULL) abort();
-    for (size_t i = 0; i < words + 2 * GUARD; i++) t.all[i] = GUARD_WORD;
-    t.table = t.all + GUARD;
-    return t;
-}
-
-static int guarded(struct lent t) {
-    for (size_t i = 0; i < GUARD; i++)
-        if (t.all[i] != GUARD_WORD || t.all[GUARD + t.words + i] != GUARD_WORD) return 0;
-    return 1;
 }
 
 /* A run: the table, the model's tree, and the plain list. */
