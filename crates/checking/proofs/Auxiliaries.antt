@@ -20,7 +20,7 @@ use Rattle.table.specs.Layout.{auxiliaryPlace, levelPlace, recordPlace, deepest
 use Rattle.table.specs.Marks.{slotMark}
 use Rattle.nodes.specs.Arms.{armAt}
 use Rattle.nodes.specs.Holds.{times, Held, CarriesBag}
-use Rattle.nodes.proofs.Held.{times-node}
+use Rattle.nodes.proofs.Held.{in-child}
 use Rattle.twofold.specs.Levels.{deeper}
 use Rattle.twofold.specs.Rules.{SlotAuxiliary, SlotMain, AuxiliaryOf, AuxiliariesOf}
 use Rattle.twofold.specs.TwoFold.{HoldsAuxiliary, HoldsAuxiliaries}
@@ -72,12 +72,6 @@ module _ (C live : ℕ) (xs : List ℕ) where
     across : All (λ a. All (λ q. belowX (slotMark xs a) (slotMark xs q) ≡ true) (marks r)) (marks l)
     across = sorted-across (marks l) (marks r) o
 
-    in-child : {G : Type 0} (s : ℕ) → 0 < times s (node i l r) → (0 < times s l → G) → (0 < times s r → G) → G
-    in-child s h left right =
-        by-cases (eqb (times s l) 0)
-        (λ t. right (omega (arith, eqb-true (times s l) 0 t, times-node s i l r)))
-        (λ f. left (omega (arith, eqb-false (times s l) 0 f)))
-
     covers-left : Covers l
     covers-left s e =
         let a = auxiliary-slot (least l) (greatest l) s e in
@@ -85,7 +79,7 @@ module _ (C live : ℕ) (xs : List ℕ) where
         let high : belowX (slotMark xs (greatest r)) m ≡ false =
         not-true-false (belowX (slotMark xs (greatest r)) m)
         (λ t. clash (alongX-laws .trans (slotMark xs (greatest l)) (slotMark xs (greatest r)) m (all-greatest r (all-greatest l across)) t) (a .2)) in
-        in-child s (c s (slot-auxiliary (least l) (greatest r) s (a .0) (a .1) high))
+        in-child s i l r (c s (slot-auxiliary (least l) (greatest r) s (a .0) (a .1) high))
         (λ h. h)
         (λ h. clash (slot-member xs (all-greatest l across) s h) (a .2))
 
@@ -96,7 +90,7 @@ module _ (C live : ℕ) (xs : List ℕ) where
         let low : belowX m (slotMark xs (least l)) ≡ false =
         not-true-false (belowX m (slotMark xs (least l)))
         (λ t. clash (alongX-laws .trans m (slotMark xs (least l)) (slotMark xs (least r)) t (all-least r (all-least l across))) (a .1)) in
-        in-child s (c s (slot-auxiliary (least l) (greatest r) s (a .0) low (a .2)))
+        in-child s i l r (c s (slot-auxiliary (least l) (greatest r) s (a .0) low (a .2)))
         (λ h. clash (all-least r (slot-member xs across s h)) (a .1))
         (λ h. h)
 

@@ -27,6 +27,13 @@ module _ {I : Type 0} where
   pub times-node : (s : ℕ) (i : I) (l r : Tree ℕ I) → times s (node i l r) ≡ times s l + times s r
   times-node s i l r = countIf-append (eqb s) (marks l) (marks r)
 
+  -- a slot beneath a node is beneath one of its children
+  pub in-child : {G : Type 0} (s : ℕ) (i : I) (l r : Tree ℕ I) → 0 < times s (node i l r) → (0 < times s l → G) → (0 < times s r → G) → G
+  in-child s i l r h left right =
+      by-cases (eqb (times s l) 0)
+      (λ t. right (omega (arith, eqb-true (times s l) 0 t, times-node s i l r)))
+      (λ u. left (omega (arith, eqb-false (times s l) 0 u)))
+
   pub times-least : (t : Tree ℕ I) → 0 < times (least t) t
   times-least (leaf s) = rw (eq-eqb s s refl) (omega arith)
   times-least (node i l r) = omega (arith, times-node (least l) i l r, times-least l)
@@ -96,13 +103,10 @@ module _ {I : Type 0} {A : Axis Mark Box} {f : ℕ → Mark} {place : ℕ → �
       → ((s : ℕ) → times s l + times s r ≤ 1) → Held A f place C xs (node i l r)
   held-over i l r e hl hr d = record {
     once = λ s. omega (arith, times-node s i l r, d s);
-    within = λ s k. either s (omega (arith, times-node s i l r)) (λ p. hl .within s p) (λ p. hr .within s p);
-    marked = λ s k. either s (omega (arith, times-node s i l r)) (λ p. hl .marked s p) (λ p. hr .marked s p);
+    within = λ s k. in-child s i l r k (λ p. hl .within s p) (λ p. hr .within s p);
+    marked = λ s k. in-child s i l r k (λ p. hl .marked s p) (λ p. hr .marked s p);
     records = (e, hl .records, hr .records);
   }
-    where
-      either : {G : Type 0} (s : ℕ) → 0 < times s l + times s r → (0 < times s l → G) → (0 < times s r → G) → G
-      either s h p q = by-cases (eqb (times s l) 0) (λ t. q (omega (arith, eqb-true (times s l) 0 t))) (λ u. p (omega (arith, eqb-false (times s l) 0 u)))
 
 -- what holds of each slot that stands in a list holds of all of it
 pub all-times : {P : ℕ → Type 0} (l : List ℕ) → ((s : ℕ) → 0 < timesIn s l → P s) → All P l
