@@ -53,7 +53,7 @@ pub fn put_slot(t: &mut [u32], s: u32, m: Mark)
     put_mark(t, 64 + 16 * (s as usize), m);
 }
 
-// Puts a mark there.
+// Puts a mark at the place k of a list.
 pub fn put_listed(list: &mut [u32], k: u32, m: Mark)
     ensures { λ _. ⌜ now (list .exit) ≡ putMark (now (list .entry)) (listPlace k) (markValue m) ⌝ }
 {
