@@ -33,6 +33,7 @@ fn holds_tree(t: &[u32], capacity: u32, live: u32) -> bool
     false
 }
 
+// The check, with its mirror for a contract; `check` says what it means.
 fn live_marks(t: &[u32]) -> u32
     ensures { λ r. ⌜ r ≡ live♯ (now (t .entry)) ⌝ }
 {
