@@ -53,9 +53,8 @@ static void put_leaf(uint32_t *t, uint32_t capacity, size_t arm, int along_x) {
 
 /* One change, of many kinds: most leave a table unsound by a hair, some leave it sound. */
 static void damage(uint32_t *t, size_t words, uint32_t capacity) {
-    size_t used = HEADER + 16 * (size_t)capacity, levels = HEADER + 32 * (size_t)capacity, at = draw((uint32_t)words), to = draw((uint32_t)words);
-    uint32_t s = draw(capacity), q = draw(capacity), d = draw(levels_for(capacity) + 1), v;
-    size_t record = words < levels + 16 ? HEADER + 3 : levels + 16 * (size_t)(d % (levels_for(capacity) + (d == 0))) * capacity + 8 * (size_t)s;
+    size_t used = HEADER + 16 * (size_t)capacity, at = draw((uint32_t)words), to = draw((uint32_t)words);
+    uint32_t s = draw(capacity), q = draw(capacity), depths = levels_for(capacity), v;
     switch (draw(12)) {
     case 0: t[at] = draw(UINT32_MAX); break;
     case 1: t[at] = draw(2 * capacity + 2); break;
@@ -68,7 +67,9 @@ static void damage(uint32_t *t, size_t words, uint32_t capacity) {
         break;
     case 6: t[2] += draw(2) == 0 ? 1 : UINT32_MAX; break;
     case 7: put_leaf(t, capacity, HEADER + 16 * (size_t)s + 3 + 4 * (draw(2) == 0), 1); break;
-    case 8: if (record + 8 <= words) put_leaf(t, capacity, record + 4 * (draw(2) == 0), 0); break;
+    case 8:
+        if (depths > 0) put_leaf(t, capacity, HEADER + (32 + 16 * (size_t)draw(depths)) * capacity + 8 * (size_t)s + 4 * (draw(2) == 0), 0);
+        break;
     case 9: put_leaf(t, capacity, HEADER + 16 * (size_t)s + 11, 0); break;
     case 10: t[HEADER + 16 * (size_t)s + draw(3)] = draw(1000002); break;
     default: t[HEADER + 16 * (size_t)s + draw(3)] += draw(2) == 0 ? 1 : UINT32_MAX; break;
@@ -103,7 +104,7 @@ static void no_tables(uint32_t capacity, unsigned rounds) {
     uint32_t *before = malloc((words + 1) * sizeof *before);
     if (before == NULL) abort();
     int clean = 1;
-    for (size_t lent = words < 4 ? 0 : words - 2; lent <= words + 1; lent++) {
+    for (size_t lent = words - 2; lent <= words + 1; lent++) {
         struct lent t = lend(lent);
         for (unsigned i = 0; i < rounds; i++) {
             for (size_t j = 0; j < lent; j++) t.table[j] = draw(4) == 0 ? draw(UINT32_MAX) : draw(2 * capacity + 1);

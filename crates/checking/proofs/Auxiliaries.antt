@@ -30,9 +30,9 @@ use Rattle.checking.specs.Span.{anyNode}
 use Rattle.checking.specs.Trees.{auxiliarySlot♯, auxiliarySpan♯, auxiliaryStands♯}
 use Rattle.checking.proofs.Walked.{Tested, Carried, readTree}
 use Rattle.checking.proofs.Reading.{Reads, walk-reads}
-use Rattle.checking.proofs.Counting.{sub-bag}
+use Rattle.nodes.proofs.Counting.{sub-bag}
 use Rattle.checking.proofs.LiveSlots.{live-slot}
-use Rattle.checking.proofs.Passed.{slot-member, walked-held}
+use Rattle.checking.proofs.WalkedHeld.{slot-member, walked-held}
 
 -- the auxiliary tree that the words have at a main node, each of whose nodes carries the slots beneath it
 module _ (xs : List ℕ) where
@@ -58,7 +58,7 @@ module _ (C live : ℕ) (xs : List ℕ) where
       let b = fails-passes low (if high then false else true) (a .1) in
       (a .0, b .0, fails-passes high true (b .1) .0)
 
-  slot-auxiliary : (first last s : ℕ) → liveSlot♯ C live xs s ≡ true → belowX (slotMark xs s) (slotMark xs first) ≡ false
+  pub slot-auxiliary : (first last s : ℕ) → liveSlot♯ C live xs s ≡ true → belowX (slotMark xs s) (slotMark xs first) ≡ false
       → belowX (slotMark xs last) (slotMark xs s) ≡ false → auxiliarySlot♯ C live first last xs s ≡ true
   unfolding auxiliarySlot♯
   slot-auxiliary first last s a b c = rw (a, b, c)

@@ -18,8 +18,8 @@ use Rattle.checking.specs.Header.{ownWords}
 use Rattle.checking.specs.Verdict.{Verdict, sound, unsound}
 use Rattle.checking.specs.Check.{soundTree♯, live♯}
 use Rattle.checking.proofs.Own.{own-table, table-own}
-use Rattle.checking.proofs.Trees.{tree-holding}
-use Rattle.checking.proofs.Passing.{holding-tree}
+use Rattle.checking.proofs.Sound.{tree-holding}
+use Rattle.checking.proofs.Complete.{holding-tree}
 
 -- words that pass are a sound table, and the check gives its marks
 pub check-sound : (xs : List ℕ) → (live♯ xs ≡ damaged → ⊥) → (T : Main) × Holding xs T × (live♯ xs ≡ length (marksOf T))

@@ -1,13 +1,12 @@
--- What a walk through a tree reads and passes; that it ends soon; then counting, and what both say of a table.
+-- What a walk through a tree reads and passes, and that it ends soon; then the slots and the header; then both directions for whole tables.
 pub mod Walked
 pub mod Comparing
 pub mod Reading
 pub mod Steps
-pub mod Counting
+pub mod WalkedHeld
 pub mod LiveSlots
 pub mod Own
-pub mod Passed
 pub mod Auxiliaries
-pub mod Trees
-pub mod Passing
+pub mod Sound
+pub mod Complete
 pub mod Exact

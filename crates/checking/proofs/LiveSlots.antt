@@ -13,7 +13,7 @@ use Rattle.model.proofs.Logic.{by-cases, by-order, clash}
 use Rattle.table.specs.Layout.{usedPlace, placePlace}
 use Rattle.nodes.specs.Holds.{timesIn}
 use Rattle.checking.specs.Slots.{liveSlot♯, placed♯, inverse♯}
-use Rattle.checking.proofs.Counting.{sub-bag, firsts, firsts-length, firsts-times, inverse-both}
+use Rattle.nodes.proofs.Counting.{sub-bag, firsts, firsts-length, firsts-times, inverse-both}
 
 module _ (C : ℕ) (xs : List ℕ) where
   -- used[i] and place[s]

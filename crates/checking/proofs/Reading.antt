@@ -138,7 +138,9 @@ module _ (A : Axis Mark Box) (O : AxisLaws sheet A) (place : ℕ → ℕ) (slot 
         rw odd (node-complete (treeSpan A place slot next test n xs) base name a own h) in
         record {
           walked = record {
-            sorted = sorted-over (slotSpace f sheet) (slotSpace-sameness f sheet sheet-sameness) (slotAxis f A) (slotAxis-laws f sheet A O) l r (hl .walked .sorted) (hr .walked .sorted)
+            sorted =
+                sorted-over (slotSpace f sheet) (slotSpace-sameness f sheet sheet-sameness) (slotAxis f A) (slotAxis-laws f sheet A O) l r
+                (hl .walked .sorted) (hr .walked .sorted)
                 (rw (hl .last, is) at (h .follows));
             balanced = (omega (arith, h .fits .evenLeft), omega (arith, h .fits .evenRight), hl .walked .balanced, hr .walked .balanced);
             slots = all-append (hl .walked .slots) (hr .walked .slots);

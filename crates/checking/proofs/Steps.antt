@@ -30,7 +30,8 @@ module _ (place : ℕ → ℕ) (next : ℕ → ℕ) (more : ℕ → Arm → ℕ)
 
   -- no more than the node tests allow, where an arm has a weight: each child's weight is at least a quarter of its node's
   module _ (bound : ℕ → ℕ) (leaves : (w : ℕ) → 1 ≤ w → 2 ≤ bound w)
-      (over : (w l r : ℕ) → 1 ≤ l → 1 ≤ r → w ≡ l + r → w ≤ 4 * l → w ≤ 4 * r → (base : ℕ) (a : Arm) → a .weight ≡ w → more base a + (bound l + bound r) ≤ bound w)
+      (over : (w l r : ℕ) → 1 ≤ l → 1 ≤ r → w ≡ l + r → w ≤ 4 * l → w ≤ 4 * r
+      → (base : ℕ) (a : Arm) → a .weight ≡ w → more base a + (bound l + bound r) ≤ bound w)
     where
       steps-bound : (n base : ℕ) (a : Arm) → 1 ≤ a .weight → steps n base a + 1 ≤ bound (a .weight)
       unfolding steps
@@ -46,7 +47,9 @@ module _ (place : ℕ → ℕ) (next : ℕ → ℕ) (more : ℕ → Arm → ℕ)
           let k : Fits name a (p .left) (p .right) = fits-sound name a (p .left) (p .right) f in
           let wl : 1 ≤ p .left .weight = omega (arith, k .weights, k .evenLeft) in
           let wr : 1 ≤ p .right .weight = omega (arith, k .weights, k .evenRight) in
-          let e = over (a .weight) (p .left .weight) (p .right .weight) wl wr (k .weights) (omega (arith, k .weights, k .evenLeft)) (omega (arith, k .weights, k .evenRight)) base a refl in
+          let el : a .weight ≤ 4 * p .left .weight = omega (arith, k .weights, k .evenLeft) in
+          let er : a .weight ≤ 4 * p .right .weight = omega (arith, k .weights, k .evenRight) in
+          let e = over (a .weight) (p .left .weight) (p .right .weight) wl wr (k .weights) el er base a refl in
           rw (t, f) (omega (arith, e, steps-bound n (next base) (p .left) wl, steps-bound n (next base) (p .right) wr)))
           (λ f. rw (t, f) one))
 
@@ -86,5 +89,7 @@ module _ (xs : List ℕ) where
       let dl : suc (D l) ≤ D w = D-largest w (suc (D l)) (deep-step (D l) l w (omega arith) (D-holds l hl)) in
       let dr : suc (D r) ≤ D w = D-largest w (suc (D r)) (deep-step (D r) r w (omega arith) (D-holds r hr)) in
       let z : w * D w ≡ l * D w + r * D w = ap (λ n. n * D w) e ∙ add-mul l r (D w) in
-      omega (arith, auxiliaryMore-bound b q (omega (arith, g, e)), g, mul-le-mul-left l dl, mul-le-mul-left r dr, mul-suc l (D l), mul-suc r (D r), mul-add w (D w) 1, mul-add l (D l) 1, mul-add r (D r) 1))
+      let left : l * (D l + 1) ≤ l * D w = omega (arith, mul-le-mul-left l dl, mul-suc l (D l), mul-add l (D l) 1) in
+      let right : r * (D r + 1) ≤ r * D w = omega (arith, mul-le-mul-left r dr, mul-suc r (D r), mul-add r (D r) 1) in
+      omega (arith, auxiliaryMore-bound b q (omega (arith, g, e)), g, left, right, z, mul-add w (D w) 1))
       deepest base a h

@@ -1,7 +1,6 @@
 // The walk through the main tree, and from each of its inner nodes through the node's auxiliary tree.
 ghost use mathlib.Core.Path.{_≡_};
-ghost use Rattle.model.specs.Sheet.{markOutside, alongX};
-ghost use Rattle.geometry.specs.Values.{markValue};
+ghost use Rattle.model.specs.Sheet.{alongX};
 ghost use Rattle.nodes.specs.Values.{primaryArm};
 ghost use Rattle.checking.specs.Span.{spanLeaf, spanOver};
 ghost use Rattle.checking.specs.Trees.{mainSlot♯, auxiliaryStands♯, mainSpan♯};
@@ -11,27 +10,18 @@ use crate::auxiliary_tree;
 use crate::ends;
 use crate::ends::Ends;
 use crate::slots;
-use geometry::Mark;
 use nodes::primary::PrimaryArm;
 use nodes::primary::PrimaryRecord;
 use table::limits;
 use twofold::levels;
-
-fn outside(m: Mark) -> bool
-    ensures { λ r. ⌜ r ≡ markOutside (markValue m) ⌝ }
-{
-    if Mark::MAX < m.x {
-        return true;
-    }
-    Mark::MAX < m.y
-}
 
 // Whether a slot may stand in the main tree: it holds a mark, with coordinates of the sheet.
 fn may_stand(t: &[u32], capacity: u32, live: u32, s: u32) -> bool
     ensures { λ r. ⌜ r ≡ mainSlot♯ capacity live (now (t .entry)) s ⌝ }
 {
     if slots::is_live(t, capacity, live, s) {
-        if outside(table::slots::mark_at(t, s)) {
+        let m = table::slots::mark_at(t, s);
+        if m.is_outside() {
             return false;
         }
         return true;

@@ -1,7 +1,7 @@
 // Marks and boxes on a sheet (document 01, "Marks, boxes, tables"), by value.
 ghost use mathlib.Core.Path.{_≡_};
 ghost use Rattle.model.specs.Axis.{cellInside, cellClear};
-ghost use Rattle.model.specs.Sheet.{belowX, belowY, same, holds, alongX, alongY};
+ghost use Rattle.model.specs.Sheet.{belowX, belowY, same, holds, markOutside, alongX, alongY};
 ghost use Rattle.model.specs.Refusals.{enterMark, enterBox};
 ghost use Rattle.geometry.specs.Values.{
   markValue,
@@ -61,13 +61,21 @@ impl Mark {
     pub fn new(x: u32, y: u32, tag: u32) -> NewMark
         ensures { λ r. ⌜ markOutcome r ≡ enterMark (record { x = x; y = y; tag = tag }) ⌝ }
     {
-        if Self::MAX < x {
+        let m = Mark { x, y, tag };
+        if m.is_outside() {
             return NewMark::Outside;
         }
-        if Self::MAX < y {
-            return NewMark::Outside;
+        NewMark::Valid(m)
+    }
+
+    // Whether x or y is beyond the largest coordinate.
+    pub fn is_outside(self) -> bool
+        ensures { λ r. ⌜ r ≡ markOutside (markValue self) ⌝ }
+    {
+        if Self::MAX < self.x {
+            return true;
         }
-        NewMark::Valid(Mark { x, y, tag })
+        Self::MAX < self.y
     }
 
     fn by_x(self) -> Key

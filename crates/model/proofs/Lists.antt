@@ -84,6 +84,10 @@ module _ {M : Type 0} where
   countIf-true [] = refl
   countIf-true (m ∷ l) = omega (arith, countIf-true l)
 
+  pub countIf-not : (p : M → Bool) (l : List M) → countIf p l + countIf (λ q. not (p q)) l ≡ length l
+  countIf-not p [] = refl
+  countIf-not p (m ∷ l) = by-cases (p m) (λ t. rw t (omega (arith, countIf-not p l))) (λ f. rw f (omega (arith, countIf-not p l)))
+
   pub sameBag-length : (l k : List M) → SameBag l k → length l ≡ length k
   sameBag-length l k s = sym (countIf-true l) ∙ s (λ q. true) ∙ countIf-true k
 

@@ -1,6 +1,6 @@
 -- Trees that words hold, each slot once: kept by changes elsewhere, and made of two by the record of a node over them. For any axis and any places of
 -- records that form a region. Assumes nothing.
-use Prim.Native.Nat.{ℕ, zero, suc, _+_, _*_, _-_, _%_, _≤_, _<_}
+use Prim.Native.Nat.{ℕ, _+_, _*_, _-_, _%_, _≤_, _<_}
 use mathlib.Core.Path.{_≡_, refl, sym, ap, subst, _∙_}
 use mathlib.Core.List.{List, [], _∷_, _++_}
 use mathlib.Core.Logic.{_⊎_, inl, inr}
@@ -8,7 +8,7 @@ use native.Mathlib.Omega.{arith}
 use lib.Dec.{eqb}
 use lib.ListN.{length, getD, length-append}
 use lib.Seq.{getD-append-add}
-use borrow.Author.Tests.{eq-eqb, ne-eqb, eqb-true, eqb-false}
+use borrow.Author.Tests.{eq-eqb, eqb-true, eqb-false}
 use Rattle.model.specs.Axis.{Axis}
 use Rattle.model.specs.Sheet.{Mark, Box}
 use Rattle.model.specs.Tree.{Tree, leaf, node, weight, marks, least, greatest}
@@ -22,6 +22,7 @@ use Rattle.nodes.specs.Arms.{Arm, arm, leafNumber, innerNumber, arms, le
 use Rattle.table.specs.Weights.{sum}
 use Rattle.nodes.specs.Holds.{armOf, Holds, timesIn, times, Held}
 use Rattle.nodes.proofs.Frames.{Region, Frame, frame-run, frame-record, frame-mark, putRecord-frame, putRecord-same}
+use Rattle.nodes.proofs.Counting.{once-length}
 
 module _ {I : Type 0} where
   pub times-node : (s : ℕ) (i : I) (l r : Tree ℕ I) → times s (node i l r) ≡ times s l + times s r
@@ -37,43 +38,6 @@ module _ {I : Type 0} where
   pub times-least : (t : Tree ℕ I) → 0 < times (least t) t
   times-least (leaf s) = rw (eq-eqb s s refl) (omega arith)
   times-least (node i l r) = omega (arith, times-node (least l) i l r, times-least l)
-
--- A list of slots below C, each once, has at most C.
-total : ℕ → List ℕ → ℕ
-total zero l = 0
-total (suc n) l = timesIn n l + total n l
-
-total-none : (n : ℕ) → total n [] ≡ 0
-unfolding total
-total-none zero = refl
-total-none (suc n) = omega (arith, total-none n)
-
-total-past : (n s : ℕ) (l : List ℕ) → n ≤ s → total n (s ∷ l) ≡ total n l
-unfolding total
-total-past zero s l h = refl
-total-past (suc n) s l h = rw (ne-eqb n s (omega arith), total-past n s l (omega arith)) (omega arith)
-
-total-within : (n s : ℕ) (l : List ℕ) → s < n → total n (s ∷ l) ≡ 1 + total n l
-unfolding total
-total-within zero s l h = absurd (omega arith)
-total-within (suc n) s l h =
-    by-cases (eqb n s)
-    (λ t. let e = eqb-true n s t in rw (t, total-past n s l (omega arith)) (omega arith))
-    (λ f. let e = eqb-false n s f in rw (f, total-within n s l (omega arith)) (omega arith))
-
-total-length : (n : ℕ) (l : List ℕ) → ((s : ℕ) → 0 < timesIn s l → s < n) → total n l ≡ length l
-total-length n [] h = total-none n
-total-length n (s ∷ l) h =
-    let here : s < n = h s (rw (eq-eqb s s refl) (omega arith)) in
-    omega (arith, total-within n s l here, total-length n l (λ q k. h q (omega arith)))
-
-total-once : (n : ℕ) (l : List ℕ) → ((s : ℕ) → timesIn s l ≤ 1) → total n l ≤ n
-unfolding total
-total-once zero l h = omega arith
-total-once (suc n) l h = omega (arith, h n, total-once n l h)
-
-pub once-length : (n : ℕ) (l : List ℕ) → ((s : ℕ) → timesIn s l ≤ 1) → ((s : ℕ) → 0 < timesIn s l → s < n) → length l ≤ n
-once-length n l once within = omega (arith, total-length n l within, total-once n l once)
 
 module _ {I : Type 0} {A : Axis Mark Box} {f : ℕ → Mark} {place : ℕ → ℕ} {C : ℕ} where
   pub held-weight : {xs : List ℕ} {t : Tree ℕ I} → Held A f place C xs t → weight t ≤ C

@@ -1,5 +1,6 @@
 pub mod Stores
 pub mod Frames
+pub mod Counting
 pub mod Held
 pub mod Spots
 pub mod Levels

@@ -2,6 +2,8 @@
 // conditions.
 ghost use mathlib.Core.Path.{_≡_};
 ghost use mathlib.Core.Logic.{_⊎_};
+ghost use Prim.Native.Nat.{_*_, _<_};
+ghost use lib.ListN.{length};
 ghost use Rattle.model.specs.Sheet.{mark, box};
 ghost use Rattle.model.specs.History.{whichList};
 ghost use Rattle.table.specs.After.{after};
@@ -78,11 +80,12 @@ pub extern "C" fn trial_check(table: &[u32]) -> u32
 // Which list holds the k marks of the first in order, 1 or 2; 0 for lists that are too short for them.
 #[no_mangle]
 pub extern "C" fn trial_sort(first: &mut [u32], second: &mut [u32], k: u32) -> u32
-    ensures { λ r. ⌜ ((r ≡ 0) × (now (first .exit) ≡ now (first .entry)) × (now (second .exit) ≡ now (second .entry)))
+    ensures { λ r. ⌜ ((r ≡ 0) × ((65536 < k) ⊎ ((length (now (first .entry)) < 3 * k) ⊎ (length (now (second .entry)) < 3 * k)))
+        × (now (first .exit) ≡ now (first .entry)) × (now (second .exit) ≡ now (second .entry)))
         ⊎ ((r ≡ whichList k) × SortedIn k (now (first .entry)) (now (second .entry)) (now (first .exit)) (now (second .exit))) ⌝ }
 {
     let words = 3 * (k as usize);
-    if 65536 < k {
+    if sizes::LARGEST_CAPACITY < k {
         return 0;
     }
     if first.len() < words {

@@ -13,15 +13,15 @@ mul-words c = search needs
 
 -- src/lib.rt:86:9
 returns : tie.Need-returns
-returns c = inl (refl, refl, refl)
+returns c = inl (refl, inl (c .if1 .taken), refl, refl)
 
 -- src/lib.rt:89:9
 returns-2 : tie.Need-returns-2
-returns-2 c = inl (refl, refl, refl)
+returns-2 c = inl (refl, inr (inl (c .if2 .taken)), refl, refl)
 
 -- src/lib.rt:92:9
 returns-3 : tie.Need-returns-3
-returns-3 c = inl (refl, refl, refl)
+returns-3 c = inl (refl, inr (inr (c .if3 .taken)), refl, refl)
 
 -- src/lib.rt:94:5
 sort-lists-requires : tie.Need-sort-lists-requires

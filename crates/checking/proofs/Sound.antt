@@ -35,7 +35,7 @@ use Rattle.checking.specs.Check.{rootStands, soundTree♯}
 use Rattle.checking.proofs.Walked.{readTree}
 use Rattle.checking.proofs.Reading.{Reads, walk-reads}
 use Rattle.checking.proofs.LiveSlots.{Inverse, inverse-sound, live-once, live-slot}
-use Rattle.checking.proofs.Passed.{slot-member, walked-held}
+use Rattle.checking.proofs.WalkedHeld.{slot-member, walked-held}
 use Rattle.checking.proofs.Auxiliaries.{auxiliaryTree, auxiliary-slot, Covers, auxiliaries-stand}
 
 -- the main tree that the words have: each inner node carries its auxiliary tree

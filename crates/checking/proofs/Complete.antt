@@ -39,6 +39,7 @@ use Rattle.checking.specs.Check.{rootStands, soundTree♯}
 use Rattle.checking.proofs.Walked.{Tested}
 use Rattle.checking.proofs.Reading.{walk-passes}
 use Rattle.checking.proofs.LiveSlots.{inverse-complete, live-slot, slot-live}
+use Rattle.checking.proofs.Auxiliaries.{slot-auxiliary}
 
 -- every node passes where nothing is asked
 any-tested : {I : Type 0} (base : ℕ) (t : Tree ℕ I) → Tested (λ b. b) (λ b name w. anyNode) base t
@@ -66,10 +67,10 @@ module _ (xs : List ℕ) where
   -- the slots of a main node pass the test of its auxiliary tree's slots
   auxiliary-slots : (t : SlotMain) → Sorted (slotAxis f alongX) (marks t) → Live (marks t)
       → All (λ s. auxiliarySlot♯ C n (least t) (greatest t) xs s ≡ true) (marks t)
-  unfolding auxiliarySlot♯
   auxiliary-slots t sorted live =
-      all-map (λ s h. rw (h .0, h .1 .0, h .1 .1))
-      (all-both live (all-both (none-below (slotSpace f sheet) (slotSameness f) (slotAxis f alongX) (slotX-laws f) t sorted) (none-above (slotSpace f sheet) (slotSameness f) (slotAxis f alongX) (slotX-laws f) t sorted)))
+      let low = none-below (slotSpace f sheet) (slotSameness f) (slotAxis f alongX) (slotX-laws f) t sorted in
+      let high = none-above (slotSpace f sheet) (slotSameness f) (slotAxis f alongX) (slotX-laws f) t sorted in
+      all-map (λ s h. slot-auxiliary C n xs (least t) (greatest t) s (h .0) (h .1 .0) (h .1 .1)) (all-both live (all-both low high))
 
   module _ (small : C ≤ 65536) where
     -- the walk through an auxiliary tree of depth d

@@ -1,19 +1,19 @@
--- Slots counted in lists: where a list has no slot more often than another of the same length, both have the same slots, and so a function that has an
--- inverse on one side below n has it on both. Assumes nothing.
+-- Slots counted in lists: where a list has no slot more often than another, it is no longer, and as long only with the same slots. So slots below n, each
+-- once, are at most n, and a function that has an inverse on one side below n has it on both. Assumes nothing.
 use Prim.Native.Nat.{ℕ, zero, suc, _+_, _≤_, _<_}
 use mathlib.Core.Path.{_≡_, refl, sym, ap, subst, _∙_}
-use mathlib.Core.Bool.{Bool, true, _&&_}
+use mathlib.Core.Bool.{Bool, true, not, _&&_}
 use mathlib.Core.List.{List, [], _∷_}
 use native.Mathlib.Omega.{arith}
 use native.Mathlib.Nat.{zero-add}
 use lib.Dec.{ltb, eqb}
 use lib.ListN.{length}
-use borrow.Author.Tests.{lt-ltb, le-ltb, ltb-true, eq-eqb, eqb-true, eqb-false}
+use borrow.Author.Tests.{lt-ltb, le-ltb, ltb-true, ltb-false, eq-eqb, eqb-true, eqb-false}
 use Rattle.model.specs.Lists.{indicator, countIf, removeFirst}
 use Rattle.model.specs.Laws.{SameBag}
 use Rattle.model.proofs.Logic.{by-cases, by-order, and-left, and-right}
-use Rattle.model.proofs.Lists.{removeFirst-length}
+use Rattle.model.proofs.Lists.{countIf-true, countIf-not}
 use Rattle.nodes.specs.Holds.{timesIn}
 
 -- a slot taken out of a list that has it
 take-out : (p : ℕ → Bool) (s : ℕ) (k : List ℕ) → 0 < timesIn s k → indicator (p s) + countIf p (removeFirst (eqb s) k) ≡ countIf p k
@@ -23,13 +23,15 @@ take-out p s (q ∷ k) h =
     (λ t. rw (t, eqb-true s q t))
     (λ u. rw u (omega (arith, take-out p s k (rw (u, zero-add) at h))))
 
-pub sub-bag : (l k : List ℕ) → ((s : ℕ) → timesIn s l ≤ timesIn s k) → length l ≡ length k → SameBag l k
-sub-bag [] [] h e p = refl
-sub-bag [] (q ∷ k) h e p = absurd (omega arith)
-sub-bag (s ∷ l) k h e p =
+-- so as many pass any test, or fewer
+sub-count : (l k : List ℕ) → ((s : ℕ) → timesIn s l ≤ timesIn s k) → (p : ℕ → Bool) → countIf p l ≤ countIf p k
+sub-count [] k h p = omega arith
+sub-count (s ∷ l) k h p =
     let own : 0 < timesIn s k = (let w = (rw (eq-eqb s s refl) at (h s)) in omega arith) in
-    let rest = sub-bag l (removeFirst (eqb s) k) (λ q. omega (arith, h q, take-out (eqb q) s k own)) (omega (arith, removeFirst-length (eqb s) k own)) p in
-    omega (arith, take-out p s k own)
+    omega (arith, take-out p s k own, sub-count l (removeFirst (eqb s) k) (λ q. omega (arith, h q, take-out (eqb q) s k own)) p)
+
+pub sub-bag : (l k : List ℕ) → ((s : ℕ) → timesIn s l ≤ timesIn s k) → length l ≡ length k → SameBag l k
+sub-bag l k h e p = omega (arith, sub-count l k h p, sub-count l k h (λ q. not (p q)), countIf-not p l, countIf-not p k)
 
 -- f 0 to f (n - 1)
 abbrev pub firsts : (ℕ → ℕ) → ℕ → List ℕ
@@ -75,6 +77,15 @@ numbers = firsts (λ i. i)
 
 numbers-times : (n s : ℕ) → s < n → timesIn s (numbers n) ≡ 1
 numbers-times n s h = firsts-times (λ i. i) (λ i. i) n (λ i k. refl) s ∙ rw (eq-eqb s s refl, lt-ltb s n h)
+
+-- a list of slots below n, each once, has at most n
+pub once-length : (n : ℕ) (l : List ℕ) → ((s : ℕ) → timesIn s l ≤ 1) → ((s : ℕ) → 0 < timesIn s l → s < n) → length l ≤ n
+once-length n l once within =
+    let below : ((s : ℕ) → timesIn s l ≤ timesIn s (numbers n)) =
+    λ s. by-cases (ltb 0 (timesIn s l))
+    (λ t. rw (numbers-times n s (within s (ltb-true 0 (timesIn s l) t))) (once s))
+    (λ f. omega (arith, ltb-false 0 (timesIn s l) f)) in
+    omega (arith, sub-count l (numbers n) below (λ q. true), countIf-true l, countIf-true (numbers n), firsts-length (λ i. i) n)
 
 -- an inverse on one side, below n, is one on both
 module _ (f g : ℕ → ℕ) (n : ℕ) (back : (i : ℕ) → i < n → (f i < n) × (g (f i) ≡ i)) where
