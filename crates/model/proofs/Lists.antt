@@ -88,6 +88,9 @@ module _ {M : Type 0} where
   countIf-not p [] = refl
   countIf-not p (m ∷ l) = by-cases (p m) (λ t. rw t (omega (arith, countIf-not p l))) (λ f. rw f (omega (arith, countIf-not p l)))
 
+  pub countIf-length : (p : M → Bool) (l : List M) → countIf p l ≤ length l
+  countIf-length p l = omega (arith, countIf-not p l)
+
   pub sameBag-length : (l k : List M) → SameBag l k → length l ≡ length k
   sameBag-length l k s = sym (countIf-true l) ∙ s (λ q. true) ∙ countIf-true k
 

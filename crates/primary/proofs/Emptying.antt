@@ -72,7 +72,7 @@ module _ (C : ℕ) (xs : List ℕ) where
     empty-open : getD (empty♯ C xs) openPlace 0 ≡ 1
     empty-open = ap (λ ws. getD ws openPlace 0) empty-is ∙ getD-set-same rooted openPlace 1 0 (omega (arith, rooted-length))
 
-    empty-capacity : capacityOf (empty♯ C xs) ≡ C
+    pub empty-capacity : capacityOf (empty♯ C xs) ≡ C
     empty-capacity =
         empty-word capacityPlace (inl (omega arith)) (omega arith) ∙ getD-set-other (set listed capacityPlace C) livePlace capacityPlace 0 0 (omega arith)
         ∙ getD-set-same listed capacityPlace C 0 (omega (arith, freeSlots-length C C xs))

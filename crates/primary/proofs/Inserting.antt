@@ -289,3 +289,6 @@ module _ (xs : List ℕ) (T : Main) (h : Holding xs T) (m : Mark) (within : mark
         put .out ∙ stands-insertRebuilt f slot (h .slots) ∙ ap₂ (λ a o. insertRebuilt alongX auxiliary a o) own stood,
         put .fine,
       )
+
+  pub insert-capacity : capacityOf (tableInsert♯ m xs .words) ≡ capacityOf xs
+  insert-capacity = rw goes (put-lists .capacity)

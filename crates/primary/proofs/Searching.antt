@@ -16,7 +16,7 @@ use Rattle.model.specs.Tree.{weight, depth, marks, marksOf}
 use Rattle.model.specs.Sheet.{Mark, Box, same, holds, belowX, Main, main}
 use Rattle.model.specs.Laws.{SameBag}
 use Rattle.model.proofs.Logic.{by-cases}
-use Rattle.model.proofs.Lists.{sameBag-length, sort-countIf, filterBy-length}
+use Rattle.model.proofs.Lists.{countIf-length, sameBag-length, sort-countIf, filterBy-length}
 use Rattle.model.proofs.Sizes.{D-rises, capacity-some, capacity-small}
 use Rattle.model.proofs.Depth.{balanced-depth}
 use Rattle.model.proofs.Orders.{sheet-sameness, same-sound, alongX-laws}
@@ -39,10 +39,6 @@ use Rattle.primary_search.proofs.Counting.{count-none, count-main-holds}
 use Rattle.primary_search.proofs.Listing.{mainMet, mainMet-listed, list-none, list-main-holds}
 use Rattle.twofold.specs.Sound.{capacityOf, HoldsTree, TreeByRules, Holding}
 use Rattle.twofold.proofs.Sound.{live-slots, live-within}
-
-countIf-length : {M : Type 0} (p : M → Bool) (l : List M) → countIf p l ≤ length l
-countIf-length p [] = omega arith
-countIf-length p (m ∷ l) = by-cases (p m) (λ t. rw t (omega (arith, countIf-length p l))) (λ t. rw t (omega (arith, countIf-length p l)))
 
 -- a slot of a list that has a mark which the list's slots have
 slot-of : (f : ℕ → Mark) (m : Mark) (l : List ℕ) → 0 < countIf (same m) (map f l) → (s : ℕ) × (0 < timesIn s l) × (m ≡ f s)

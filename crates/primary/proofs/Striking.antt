@@ -195,3 +195,6 @@ module _ (xs : List ℕ) (T : Main) (h : Holding xs T) (m : Mark) (has : 0 < cou
         taken .out ∙ stands-strikeRebuilt (slotMark xs) slot (h .slots) ∙ ap₂ (λ a o. strikeRebuilt alongX auxiliary a o) (found .1) (h .stands),
         taken .fine,
       )
+
+  pub strike-capacity : capacityOf (tableStrike♯ m (find♯ xs m) xs .words) ≡ capacityOf xs
+  strike-capacity = rw goes (freeSlot-capacity frees ∙ taken .lists .capacity)

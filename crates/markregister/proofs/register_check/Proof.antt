@@ -1,0 +1,24 @@
+use Rattle.register.specs.Performs.{Performs}
+use mathlib.Core.Path.{sym, subst}
+use borrow.Author.Needs.{needs}
+use Rattle.markregister.proofs.register_check.Statement.{statement}
+use Rattle.markregister.proofs.register_check.Tie as tie
+use Rattle.markregister.proofs.register_check.Reads as reads
+use Rattle.markregister.proofs.register_check.Lts as lts
+use Rattle.register.proofs.answers.Check.figures.Reads as figures-reads
+use Rattle.register.proofs.check.check.Reads as check-reads
+
+-- src/lib.rt:114:13
+check-requires : tie.Need-check-requires
+check-requires c κs = search needs
+
+-- src/lib.rt:114:9
+figures-requires : tie.Need-figures-requires
+figures-requires c κs = search needs
+
+-- src/lib.rt:110:1
+returns : tie.Need-returns
+returns c = subst (Performs _ _ _) (sym (c .figures .ensures)) (c .before .check .ensures)
+
+pub register-check-spec : {M : Type 1} → statement M
+register-check-spec = tie.close (tie.spec check-requires figures-requires returns)

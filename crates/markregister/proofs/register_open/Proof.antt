@@ -1,0 +1,28 @@
+use Rattle.register.specs.Performs.{Performs}
+use mathlib.Core.Path.{sym, subst}
+use borrow.Author.Needs.{needs}
+use Rattle.markregister.proofs.register_open.Statement.{statement}
+use Rattle.markregister.proofs.register_open.Tie as tie
+use Rattle.markregister.proofs.register_open.Reads as reads
+use Rattle.markregister.proofs.register_open.Lts as lts
+use Rattle.register.proofs.answers.Opening.figures.Reads as figures-reads
+use Rattle.register.proofs.open.open.Reads as open-reads
+
+-- src/lib.rt:24:13
+open-requires : tie.Need-open-requires
+open-requires c κs = search needs
+
+-- src/lib.rt:24:9
+figures-requires : tie.Need-figures-requires
+figures-requires c κs = search needs
+
+-- src/lib.rt:19:1
+same-length : tie.Need-same-length
+same-length c = search needs
+
+-- src/lib.rt:19:1
+returns : tie.Need-returns
+returns c = subst (Performs _ _ _) (sym (c .figures .ensures)) (c .before .before .before .«open» .ensures)
+
+pub register-open-spec : {M : Type 1} → statement M
+register-open-spec = tie.close (tie.spec open-requires figures-requires same-length returns)

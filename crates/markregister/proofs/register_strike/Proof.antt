@@ -1,0 +1,28 @@
+use Rattle.register.specs.Performs.{Performs}
+use mathlib.Core.Path.{sym, subst}
+use borrow.Author.Needs.{needs}
+use Rattle.markregister.proofs.register_strike.Statement.{statement}
+use Rattle.markregister.proofs.register_strike.Tie as tie
+use Rattle.markregister.proofs.register_strike.Reads as reads
+use Rattle.markregister.proofs.register_strike.Lts as lts
+use Rattle.register.proofs.answers.Update.figures.Reads as figures-reads
+use Rattle.register.proofs.strike.strike.Reads as strike-reads
+
+-- src/lib.rt:59:13
+strike-requires : tie.Need-strike-requires
+strike-requires c κs = search needs
+
+-- src/lib.rt:59:9
+figures-requires : tie.Need-figures-requires
+figures-requires c κs = search needs
+
+-- src/lib.rt:47:1
+same-length : tie.Need-same-length
+same-length c = search needs
+
+-- src/lib.rt:47:1
+returns : tie.Need-returns
+returns c = subst (Performs _ _ _) (sym (c .figures .ensures)) (c .before .before .before .strike .ensures)
+
+pub register-strike-spec : {M : Type 1} → statement M
+register-strike-spec = tie.close (tie.spec strike-requires figures-requires same-length returns)

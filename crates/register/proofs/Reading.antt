@@ -1,0 +1,136 @@
+-- The calls that only read the table: count and check. Assumes nothing.
+use Prim.Native.Nat.{ℕ, _+_, _-_, _*_, _/_, _%_, _≤_, _<_}
+use mathlib.Core.Path.{_≡_, refl, sym, ap, ap₂, subst, _∙_}
+use mathlib.Core.Logic.{_≢_}
+use mathlib.Core.Bool.{true, false}
+use mathlib.Core.List.{List, []}
+use native.Mathlib.Omega.{arith}
+use native.Mathlib.Nat.{sub-zero}
+use lib.Dec.{eqb, ltb}
+use lib.ListN.{length, take}
+use borrow.Author.Tests.{eqb-true, eqb-false, ltb-true, ltb-false, le-ltb}
+use Rattle.model.specs.Lists.{countIf}
+use Rattle.model.specs.Tree.{marksOf}
+use Rattle.model.specs.Sheet.{Box, Main, boxCrossed, holds, main}
+use Rattle.model.specs.Refusals.{enterBox}
+use Rattle.model.specs.History.{Call, State, Answer, refusal, updated, counted, answer, next}
+use Rattle.model.specs.History as history
+use Rattle.model.proofs.Logic.{by-cases}
+use Rattle.table.specs.Layout.{damaged}
+use Rattle.table.specs.Tally.{mostVisits, pack}
+use Rattle.twofold.specs.Sound.{capacityOf, Holding, SoundTable}
+use Rattle.primary_search.specs.Count.{mainCount♯}
+use Rattle.primary.proofs.Searching.{holding-within, holding-small, count-sound, count-plain, count-most}
+use Rattle.checking.specs.Verdict.{Verdict}
+use Rattle.checking.specs.Verdict as verdict
+use Rattle.checking.specs.Header.{notTable, ownWords}
+use Rattle.register.specs.Performs.{alone, early, own, Later, counts, sound, unsound, stateOf, Performs}
+use Rattle.register.specs.Mirrors.{orNumber, tallied, countOwn♯, count♯}
+use Rattle.register.proofs.Own.{own-none, own-some, own-is, sound-table}
+use Rattle.register.proofs.Performing.{no-lists, performs-kept, refused-early, refused-later}
+
+-- what a tally of marks and visits says
+pub pack-visits : (k v : ℕ) → v < 4294967296 → pack k v % 4294967296 ≡ v
+pack-visits k v h = omega arith
+
+pub pack-found : (k v : ℕ) → v < 4294967296 → pack k v / 4294967296 ≡ k
+pack-found k v h = omega arith
+
+module _ (xs : List ℕ) (b : Box) (T : Main) (h : Holding (own xs) T) where
+  pub visits-sound : mainCount♯ (own xs) b % 4294967296 ≡ main .count b T .visits
+  visits-sound =
+      ap (λ t. t % 4294967296) (count-sound (own xs) T h b)
+      ∙ pack-visits (main .count b T .found) (main .count b T .visits) (omega (arith, count-most (own xs) T h b))
+
+  pub found-sound : mainCount♯ (own xs) b / 4294967296 ≡ countIf (holds b) (marksOf T)
+  found-sound =
+      ap (λ t. t / 4294967296) (count-sound (own xs) T h b)
+      ∙ pack-found (main .count b T .found) (main .count b T .visits) (omega (arith, count-most (own xs) T h b)) ∙ count-plain (own xs) T h b
+
+-- reading leaves the state as it is
+pub count-keeps : (b : Box) (s : State) → next (history.count b) s ≡ s
+count-keeps b s = by-cases (eqb (answer (history.count b) s .number) 0) (λ t. rw t) (λ t. rw t)
+
+module _ (b : Box) (xs : List ℕ) where
+  count-refused : (n : ℕ) → n ≢ 0 → early (history.count b) xs ≡ n
+      → ((T : Main) → Holding (own xs) T → refusal n 0 ≡ answer (history.count b) (stateOf xs T))
+      → Performs (history.count b) (alone xs) (alone xs) (refusal n 0)
+  count-refused n some e says = refused-early (history.count b) (alone xs) n 0 some tt says e refl
+
+  module _ (table : ownWords xs ≡ 0 → ⊥) (entered : boxCrossed b ≡ false) where
+    no-row : early (history.count b) xs ≡ 0
+    unfolding early enterBox
+    no-row = rw (own-some xs table, entered)
+
+    tallied-performs : Performs (history.count b) (alone xs) (alone xs) (tallied (mainCount♯ (own xs) b))
+    unfolding tallied enterBox
+    tallied-performs =
+        by-cases (ltb mostVisits (mainCount♯ (own xs) b % 4294967296))
+        (λ t.
+        let wrong : SoundTable (own xs) → ⊥ = λ k. omega (
+          arith,
+          ltb-true mostVisits (mainCount♯ (own xs) b % 4294967296) t,
+          visits-sound xs b (k .tree) (k .holding),
+          count-most (own xs) (k .tree) (k .holding) b,
+        ) in
+        rw t (refused-later (history.count b) (alone xs) 4 0 (omega arith) tt (λ T h. absurd (wrong (record { tree = T; holding = h }))) no-row
+        (unsound refl wrong)))
+        (λ f. rw f (performs-kept (history.count b) xs [] [] [] [] (counted (mainCount♯ (own xs) b / 4294967296) (mainCount♯ (own xs) b % 4294967296)) tt
+        (λ z. absurd (z no-row)) (λ z. counts)
+        (no-lists (counted (mainCount♯ (own xs) b / 4294967296) (mainCount♯ (own xs) b % 4294967296)) xs xs [] [] refl) (λ z. tt)
+        (λ T h. (rw entered (ap₂ counted (found-sound xs b T h) (visits-sound xs b T h)), count-keeps b (stateOf xs T)))))
+
+  pub count-performs : (a : Answer) → a ≡ count♯ b xs → Performs (history.count b) (alone xs) (alone xs) a
+  unfolding count♯ countOwn♯ orNumber early enterBox
+  count-performs a is =
+      subst (Performs (history.count b) (alone xs) (alone xs)) (sym is)
+      (by-cases (eqb (ownWords xs) 0)
+      (λ t.
+      let z = eqb-true (ownWords xs) 0 t in
+      rw t (count-refused 3 (omega arith) (rw (own-none xs z)) (λ T h. absurd (sound-table xs h z))))
+      (λ t.
+      let z = eqb-false (ownWords xs) 0 t in
+      by-cases (boxCrossed b)
+      (λ u. rw (t, u) (count-refused 6 (omega arith) (rw (own-some xs z, u)) (λ T h. rw u)))
+      (λ u. rw (t, u, own-is xs z) (tallied-performs z u))))
+
+-- CHECK
+
+-- of words that the check calls damaged no tree is sound, and of others it gives the marks
+verdict-unsound : {zs : List ℕ} {v : ℕ} → Verdict zs v → v ≡ damaged → SoundTable zs → ⊥
+verdict-unsound {zs = zs} (verdict.sound {T = T} h) e = absurd (omega (arith, holding-within zs T h, holding-small zs T h))
+verdict-unsound (verdict.unsound wrong) e = wrong
+
+verdict-sound : {zs : List ℕ} {v : ℕ} → Verdict zs v → v ≢ damaged → (T : Main) × Holding zs T × (v ≡ length (marksOf T))
+verdict-sound (verdict.sound {T = T} h) ne = (T, h, refl)
+verdict-sound (verdict.unsound wrong) ne = absurd (ne refl)
+
+module _ (xs : List ℕ) where
+  pub check-not-table : ownWords xs ≡ 0 → Performs history.check (alone xs) (alone xs) (refusal 3 0)
+  unfolding early
+  check-not-table z =
+      refused-early history.check (alone xs) 3 0 (omega arith) tt (λ T h. absurd (sound-table xs h z)) (rw (own-none xs z)) refl
+
+  module _ (n : ℕ) (is : n ≡ ownWords xs) (some : n ≡ 0 → ⊥) (v : ℕ) (says : Verdict (take (n - 0) xs) v) where
+    table : ownWords xs ≡ 0 → ⊥
+    table z = some (is ∙ z)
+
+    own-says : Verdict (own xs) v
+    own-says = subst (λ l. Verdict l v) (ap (λ k. take k xs) (sub-zero n ∙ is) ∙ own-is xs table) says
+
+    check-row : early history.check xs ≡ 0
+    unfolding early
+    check-row = rw (own-some xs table)
+
+    pub check-unsound : v ≡ damaged → Performs history.check (alone xs) (alone xs) (refusal 4 0)
+    check-unsound e =
+        let wrong = verdict-unsound own-says e in
+        refused-later history.check (alone xs) 4 0 (omega arith) tt (λ T h. absurd (wrong (record { tree = T; holding = h }))) check-row (unsound refl wrong)
+
+    pub check-sound : v ≢ damaged → Performs history.check (alone xs) (alone xs) (updated v 0)
+    check-sound ne =
+        let k = verdict-sound own-says ne in
+        performs-kept history.check xs [] [] [] [] (updated v 0) tt (λ z. absurd (z check-row))
+        (λ z. subst (λ n. Later xs history.check (updated n 0)) (sym (k .2)) (sound (k .1)))
+        (no-lists (updated v 0) xs xs [] [] refl) (λ z. tt)
+        (λ T h. (ap (λ n. updated n 0) (k .2 ∙ sym (k .1 .live) ∙ h .live), refl))

@@ -1,0 +1,117 @@
+-- The branches of the calls' code, each equal to its mirror. Assumes nothing.
+use Prim.Native.Nat.{ℕ, _+_, _*_, _-_, _/_, _%_, _≤_, _<_}
+use mathlib.Core.Path.{_≡_, refl, sym, ap, subst, _∙_}
+use mathlib.Core.Logic.{_⊎_, inl, inr}
+use mathlib.Core.List.{List, _++_}
+use lib.ListN.{take, drop, length}
+use native.Mathlib.Nat.{sub-zero}
+use borrow.Author.Tests.{eq-eqb, ne-eqb}
+use Rattle.model.specs.Sheet.{Mark, Box}
+use Rattle.model.specs.Refusals.{Outcome, accepted, refused, openTable, enterMark, enterBox}
+use Rattle.model.specs.History.{Answer, refusal, updated, whichList}
+use Rattle.table.specs.After.{After, after}
+use Rattle.table.specs.Tally.{mostVisits}
+use Rattle.primary_search.specs.Count.{mainCount♯}
+use Rattle.primary_search.specs.List.{mainList♯}
+use Rattle.sorting.specs.Sorted.{SortedIn}
+use Rattle.primary.specs.Empty.{empty♯}
+use Rattle.checking.specs.Header.{ownWords}
+use Rattle.register.specs.Mirrors.{within, onAccepted, open♯, onTable, updateOwn, orNumber, countOwn♯, count♯}
+use Rattle.register.specs.Mirrors.{ListedOwn, ListsOwn, lost, short, lists, Lists, notTable, crossed, onOwn}
+use Rattle.register.specs.Answers.{ListFigures, listRefused}
+
+module _ (xs : List ℕ) (n : ℕ) (own : n ≡ ownWords xs) where
+  module _ (f : Mark → List ℕ → After Answer) (m : Mark) where
+    pub update-not-table : n ≡ 0 → after (refusal 3 0) xs ≡ updateOwn f m xs
+    unfolding updateOwn onTable
+    update-not-table z = rw (← own, z)
+
+    module _ (some : n ≡ 0 → ⊥) where
+      pub update-outside : (k : ℕ) → enterMark m ≡ refused k → after (refusal k 0) xs ≡ updateOwn f m xs
+      unfolding updateOwn onTable onAccepted
+      update-outside k e = rw (← own, ne-eqb n 0 some, e)
+
+      pub update-own : (m′ : Mark) → enterMark m ≡ accepted m′ → (a : Answer) (x : List ℕ) → after a x ≡ f m′ (take (n - 0) xs)
+          → after a (x ++ drop (n - 0) xs) ≡ updateOwn f m xs
+      unfolding updateOwn onTable onAccepted within
+      update-own m′ e a x h = let k = (rw (sub-zero n) at h) in rw (← own, ne-eqb n 0 some, e, sub-zero n, ← k)
+
+  module _ (b : Box) where
+    pub count-not-table : n ≡ 0 → refusal 3 0 ≡ count♯ b xs
+    unfolding count♯
+    count-not-table z = rw (← own, z)
+
+    module _ (some : n ≡ 0 → ⊥) where
+      pub count-crossed : (k : ℕ) → enterBox b ≡ refused k → refusal k 0 ≡ count♯ b xs
+      unfolding count♯ orNumber
+      count-crossed k e = rw (← own, ne-eqb n 0 some, e)
+
+      pub count-own : (b′ : Box) → enterBox b ≡ accepted b′ → (a : Answer) → a ≡ countOwn♯ b′ (take (n - 0) xs) → a ≡ count♯ b xs
+      unfolding count♯ orNumber
+      count-own b′ e a h = rw (← own, ne-eqb n 0 some, e, ← sub-zero n, ← h)
+
+module _ (xs : List ℕ) (c : ℕ) where
+  pub open-refused : (k : ℕ) → openTable c (length xs) ≡ refused k → after (refusal k 0) xs ≡ open♯ c xs
+  unfolding open♯ onAccepted
+  open-refused k e = rw e
+
+  pub open-own : (n : ℕ) → openTable c (length xs) ≡ accepted n → (x : List ℕ) → x ≡ empty♯ c (take (n - 0) xs)
+      → after (updated 0 0) (x ++ drop (n - 0) xs) ≡ open♯ c xs
+  unfolding open♯ onAccepted within
+  open-own n e x h = let k = (rw (sub-zero n) at h) in rw (e, sub-zero n, ← k)
+
+-- the k marks that a count has found are listed into the leading part x of the first list, and sorted
+pub list-marks : (b : Box) (k : ℕ) (xs first second first′ second′ x : List ℕ) (tally visits which : ℕ)
+    → after tally x ≡ mainList♯ xs b (mostVisits + 2 * k) (take (3 * k - 0) first) → length x ≡ length (take (3 * k - 0) first)
+    → visits ≡ tally % 4294967296 → which ≡ whichList k
+    → SortedIn k (x ++ drop (3 * k - 0) first) second first′ second′
+    → ListedOwn b k xs first second first′ second′ (record { number = 0; k = k; visits = visits; which = which })
+list-marks b k xs first second first′ second′ x tally visits which listed many ev ew sorted =
+    let h = (rw (sub-zero (3 * k)) at listed) in
+    let l = (rw (sub-zero (3 * k)) at many) in
+    let s = (rw (sub-zero (3 * k)) at sorted) in
+    record { long = rw (← h) l; figures = rw (ev, ew, ← h); sorted = rw (← h) s }
+
+module _ (b : Box) (xs first second : List ℕ) (t v k : ℕ) (et : t ≡ mainCount♯ xs b) (ev : v ≡ t % 4294967296) (ek : k ≡ t / 4294967296) where
+  visits-is : v ≡ mainCount♯ xs b % 4294967296
+  visits-is = ev ∙ ap (λ t. t % 4294967296) et
+
+  found-is : k ≡ mainCount♯ xs b / 4294967296
+  found-is = ek ∙ ap (λ t. t / 4294967296) et
+
+  pub list-lost : mostVisits < v → ListsOwn b xs first second first second (listRefused 4 0)
+  list-lost h = lost (inl (subst (λ n. mostVisits < n) visits-is h))
+
+  pub list-many : 65536 < k → ListsOwn b xs first second first second (listRefused 4 0)
+  list-many h = lost (inr (subst (λ n. 65536 < n) found-is h))
+
+  module _ (few : v ≤ mostVisits) where
+    few-is : mainCount♯ xs b % 4294967296 ≤ mostVisits
+    few-is = subst (λ n. n ≤ mostVisits) visits-is few
+
+    pub list-short : (length first < 3 * k) ⊎ (length second < 3 * k) → ListsOwn b xs first second first second (listRefused 10 k)
+    list-short h =
+        subst (λ n. ListsOwn b xs first second first second (listRefused 10 n)) (sym found-is)
+        (short few-is (subst (λ n. (length first < 3 * n) ⊎ (length second < 3 * n)) found-is h))
+
+    pub list-lists : (first′ second′ : List ℕ) (f : ListFigures) → 3 * k ≤ length first → 3 * k ≤ length second
+        → ListedOwn b k xs first second first′ second′ f → ListsOwn b xs first second first′ second′ f
+    list-lists first′ second′ f p q h =
+        lists few-is (subst (λ n. 3 * n ≤ length first) found-is p) (subst (λ n. 3 * n ≤ length second) found-is q)
+        (subst (λ n. ListedOwn b n xs first second first′ second′ f) found-is h)
+
+module _ (b : Box) (xs first second : List ℕ) (n : ℕ) (own : n ≡ ownWords xs) where
+  pub list-not-table : n ≡ 0 → Lists b xs first second first second (listRefused 3 0)
+  list-not-table z = notTable (sym own ∙ z)
+
+  module _ (some : n ≡ 0 → ⊥) where
+    owns : ownWords xs ≡ 0 → ⊥
+    owns z = some (own ∙ z)
+
+    pub list-crossed : (k : ℕ) → enterBox b ≡ refused k → Lists b xs first second first second (listRefused k 0)
+    list-crossed k e = crossed owns e
+
+    pub list-own : (b′ : Box) (first′ second′ : List ℕ) (f : ListFigures) → enterBox b ≡ accepted b′
+        → ListsOwn b′ (take (n - 0) xs) first second first′ second′ f → Lists b xs first second first′ second′ f
+    list-own b′ first′ second′ f e h =
+        onOwn owns e (subst (λ k. ListsOwn b′ (take k xs) first second first′ second′ f) (sub-zero n ∙ own) h)

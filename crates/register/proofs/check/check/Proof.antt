@@ -1,0 +1,56 @@
+use mathlib.Core.Path.{sym, _∙_}
+use native.Mathlib.Omega.{arith}
+use Rattle.register.proofs.Own.{own-fits}
+use Rattle.register.proofs.Reading.{check-not-table, check-unsound, check-sound}
+use borrow.Author.Needs.{needs}
+use Rattle.register.proofs.check.check.Statement.{statement}
+use Rattle.register.proofs.check.check.Tie as tie
+use Rattle.register.proofs.check.check.Reads as reads
+use Rattle.register.proofs.check.check.Lts as lts
+use Rattle.checking.proofs.check.check.Reads as check-reads
+use Rattle.checking.proofs.header.own_words.Reads as own-words-reads
+
+-- src/check.rt:13:9
+own-words-requires : tie.Need-own-words-requires
+own-words-requires c κs = search needs
+
+-- src/check.rt:15:9
+returns : tie.Need-returns
+returns c = check-not-table _ (sym (c .before .own-words .ensures) ∙ c .if1 .taken)
+
+-- src/check.rt:17:39
+sub-check : tie.Need-sub-check
+sub-check c = search needs
+
+-- src/check.rt:17:39
+part-check-start : tie.Need-part-check-start
+part-check-start c = search needs
+
+-- src/check.rt:17:39
+part-check-end : tie.Need-part-check-end
+part-check-end c = omega (arith, c .before .own-words .ensures, own-fits (c .before .before .before .args .table .now))
+
+-- src/check.rt:17:9
+check-requires : tie.Need-check-requires
+check-requires c κs = search needs
+
+-- src/check.rt:19:9
+returns-2 : tie.Need-returns-2
+returns-2 c = check-unsound _ _ (c .before .before .before .before .own-words .ensures) (c .before .before .before .if1 .left) _ (c .before .check .ensures) (c .if2 .taken)
+
+-- src/check.rt:10:1
+returns-3 : tie.Need-returns-3
+returns-3 c = check-sound _ _ (c .before .before .before .before .own-words .ensures) (c .before .before .before .if1 .left) _ (c .before .check .ensures) (c .if2 .left)
+
+pub check-spec : {M : Type 1} → statement M
+check-spec =
+    tie.close
+    (tie.spec
+    own-words-requires
+    returns
+    sub-check
+    part-check-start
+    part-check-end
+    check-requires
+    returns-2
+    returns-3)

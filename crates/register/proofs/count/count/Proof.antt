@@ -1,0 +1,18 @@
+use Rattle.register.proofs.Reading.{count-performs}
+use borrow.Author.Needs.{needs}
+use Rattle.register.proofs.count.count.Statement.{statement}
+use Rattle.register.proofs.count.count.Tie as tie
+use Rattle.register.proofs.count.count.Reads as reads
+use Rattle.register.proofs.count.count.Lts as lts
+use Rattle.register.proofs.count.counted.Reads as counted-reads
+
+-- src/count.rt:43:5
+counted-requires : tie.Need-counted-requires
+counted-requires c κs = search needs
+
+-- src/count.rt:40:1
+returns : tie.Need-returns
+returns c = count-performs _ _ _ (c .counted .ensures)
+
+pub count-spec : {M : Type 1} → statement M
+count-spec = tie.close (tie.spec counted-requires returns)

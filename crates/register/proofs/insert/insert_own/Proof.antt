@@ -1,0 +1,92 @@
+use Rattle.register.specs.Mirrors.{insertOwn♯, insertFound, settledAfter}
+use borrow.Author.Tests.{eq-eqb, ne-eqb}
+use borrow.Author.Needs.{needs}
+use Rattle.register.proofs.insert.insert_own.Statement.{statement}
+use Rattle.register.proofs.insert.insert_own.Tie as tie
+use Rattle.register.proofs.insert.insert_own.Reads as reads
+use Rattle.register.proofs.insert.insert_own.Lts as lts
+use Rattle.primary.proofs.insert.insert.Reads as insert-reads
+use Rattle.primary_search.proofs.find.find.Reads as find-reads
+use Rattle.register.proofs.update.close.Reads as close-reads
+use Rattle.register.proofs.update.settle.Reads as settle-reads
+use Rattle.table.proofs.header.capacity.Reads as capacity-reads
+use Rattle.table.proofs.header.live.Reads as live-reads
+
+-- src/insert.rt:22:9
+find-requires : tie.Need-find-requires
+find-requires c κs = search needs
+
+-- src/insert.rt:24:9
+close-requires : tie.Need-close-requires
+close-requires c κs = search needs
+
+-- src/insert.rt:24:9
+same-length : tie.Need-same-length
+same-length c = search needs
+
+-- src/insert.rt:24:9
+returns : tie.Need-returns
+unfolding insertOwn♯ insertFound
+returns c = rw (← c .before .before .before .before .before .find .ensures, eq-eqb _ _ (c .before .before .before .before .if1 .taken), ← c .before .before .close .ensures)
+
+-- src/insert.rt:27:12
+live-requires : tie.Need-live-requires
+live-requires c κs = search needs
+
+-- src/insert.rt:27:38
+capacity-requires : tie.Need-capacity-requires
+capacity-requires c κs = search needs
+
+-- src/insert.rt:28:13
+same-length-2 : tie.Need-same-length-2
+same-length-2 c = search needs
+
+-- src/insert.rt:28:13
+returns-2 : tie.Need-returns-2
+unfolding insertOwn♯ insertFound
+returns-2 c = rw (← c .before .before .before .before .before .before .before .find .ensures, ne-eqb _ _ (c .before .before .before .before .before .before .if1 .left), eq-eqb _ _ (c .before .before .before .before .before .if2 .taken), ← c .before .before .before .live .ensures, ← c .before .capacity .ensures, eq-eqb _ _ (c .if3 .taken))
+
+-- src/insert.rt:30:13
+insert-requires : tie.Need-insert-requires
+insert-requires c κs = search needs
+
+-- src/insert.rt:31:9
+settle-requires : tie.Need-settle-requires
+settle-requires c κs = search needs
+
+-- src/insert.rt:31:9
+same-length-3 : tie.Need-same-length-3
+same-length-3 c = search needs
+
+-- src/insert.rt:31:9
+returns-3 : tie.Need-returns-3
+unfolding insertOwn♯ insertFound settledAfter
+returns-3 c = rw (← c .before .before .before .before .before .before .before .before .before .before .before .before .before .before .before .find .ensures, ne-eqb _ _ (c .before .before .before .before .before .before .before .before .before .before .before .before .before .before .if1 .left), eq-eqb _ _ (c .before .before .before .before .before .before .before .before .before .before .before .before .before .if2 .taken), ← c .before .before .before .before .before .before .before .before .before .before .before .live .ensures, ← c .before .before .before .before .before .before .before .before .before .capacity .ensures, ne-eqb _ _ (c .before .before .before .before .before .before .before .before .if3 .left), ← c .before .before .before .before .before .before .insert .ensures, ← c .before .before .settle .ensures)
+
+-- src/insert.rt:19:1
+same-length-4 : tie.Need-same-length-4
+same-length-4 c = search needs
+
+-- src/insert.rt:19:1
+returns-4 : tie.Need-returns-4
+unfolding insertOwn♯ insertFound
+returns-4 c = rw (← c .before .before .find .ensures, ne-eqb _ _ (c .before .if1 .left), ne-eqb _ _ (c .if2 .left))
+
+pub insert-own-spec : {M : Type 1} → statement M
+insert-own-spec =
+    tie.close
+    (tie.spec
+    find-requires
+    close-requires
+    same-length
+    returns
+    live-requires
+    capacity-requires
+    same-length-2
+    returns-2
+    insert-requires
+    settle-requires
+    same-length-3
+    returns-3
+    same-length-4
+    returns-4)

@@ -1,0 +1,92 @@
+use Rattle.register.specs.Mirrors.{insert♯, insertOwn♯}
+use mathlib.Core.Path.{sym, ap, _∙_}
+use native.Mathlib.Omega.{arith}
+use Rattle.geometry.specs.Values.{markOutcome}
+use Rattle.register.proofs.Own.{own-fits}
+use Rattle.register.proofs.Steps.{update-not-table, update-outside, update-own}
+use borrow.Author.Needs.{needs}
+use Rattle.register.proofs.insert.inserted.Statement.{statement}
+use Rattle.register.proofs.insert.inserted.Tie as tie
+use Rattle.register.proofs.insert.inserted.Reads as reads
+use Rattle.register.proofs.insert.inserted.Lts as lts
+use Rattle.checking.proofs.header.own_words.Reads as own-words-reads
+use Rattle.geometry.proofs.Mark.new.Reads as new-reads
+use Rattle.register.proofs.insert.insert_own.Reads as insert-own-reads
+
+-- src/insert.rt:39:9
+own-words-requires : tie.Need-own-words-requires
+own-words-requires c κs = search needs
+
+-- src/insert.rt:41:9
+same-length : tie.Need-same-length
+same-length c = search needs
+
+-- src/insert.rt:41:9
+returns : tie.Need-returns
+unfolding insert♯
+returns c = update-not-table _ _ (c .before .own-words .ensures) insertOwn♯ _ (c .if1 .taken)
+
+-- src/insert.rt:43:11
+new-requires : tie.Need-new-requires
+new-requires c κs = search needs
+
+-- src/insert.rt:44:29
+enum-told : tie.Need-enum-told
+enum-told c = search needs
+
+-- src/insert.rt:45:24
+enum-known-m : tie.Need-enum-known-m
+enum-known-m c = search needs
+
+-- src/insert.rt:45:41
+sub-insert-own : tie.Need-sub-insert-own
+sub-insert-own c = search needs
+
+-- src/insert.rt:45:41
+part-insert-own-start : tie.Need-part-insert-own-start
+part-insert-own-start c = search needs
+
+-- src/insert.rt:45:41
+part-insert-own-end : tie.Need-part-insert-own-end
+part-insert-own-end c = omega (arith, c .before .before .before .before .before .own-words .ensures, own-fits (c .before .before .before .before .before .before .before .before .args .table .now))
+
+-- src/insert.rt:45:30
+insert-own-requires : tie.Need-insert-own-requires
+insert-own-requires c κs = search needs
+
+-- src/insert.rt:36:1
+same-length-2 : tie.Need-same-length-2
+same-length-2 c = search needs
+
+-- src/insert.rt:36:1
+returns-2 : tie.Need-returns-2
+unfolding insert♯
+returns-2 c = update-outside _ _ (c .before .before .before .before .own-words .ensures) insertOwn♯ _ (c .before .before .before .if1 .left) 5 (sym (c .before .before .new .ensures) ∙ ap markOutcome (c .enum-told .given .1))
+
+-- src/insert.rt:36:1
+same-length-3 : tie.Need-same-length-3
+same-length-3 c = search needs
+
+-- src/insert.rt:36:1
+returns-3 : tie.Need-returns-3
+unfolding insert♯
+returns-3 c = update-own _ _ (c .before .before .before .before .before .before .before .before .before .own-words .ensures) insertOwn♯ _ (c .before .before .before .before .before .before .before .before .if1 .left) _ (sym (c .before .before .before .before .before .before .before .new .ensures) ∙ ap markOutcome (c .before .before .before .before .before .m .given .1)) _ _ (c .before .before .insert-own .ensures)
+
+pub inserted-spec : {M : Type 1} → statement M
+inserted-spec =
+    tie.close
+    (tie.spec
+    own-words-requires
+    same-length
+    returns
+    new-requires
+    enum-told
+    enum-known-m
+    sub-insert-own
+    part-insert-own-start
+    part-insert-own-end
+    insert-own-requires
+    same-length-2
+    returns-2
+    same-length-3
+    returns-3)

@@ -1,0 +1,26 @@
+use Rattle.register.proofs.Listing.{list-performs}
+use borrow.Author.Needs.{needs}
+use Rattle.register.proofs.list.list.Statement.{statement}
+use Rattle.register.proofs.list.list.Tie as tie
+use Rattle.register.proofs.list.list.Reads as reads
+use Rattle.register.proofs.list.list.Lts as lts
+use Rattle.register.proofs.list.listed.Reads as listed-reads
+
+-- src/list.rt:86:5
+listed-requires : tie.Need-listed-requires
+listed-requires c κs = search needs
+
+-- src/list.rt:72:1
+same-length : tie.Need-same-length
+same-length c = search needs
+
+-- src/list.rt:72:1
+same-length-2 : tie.Need-same-length-2
+same-length-2 c = search needs
+
+-- src/list.rt:72:1
+returns : tie.Need-returns
+returns c = list-performs _ _ _ _ (c .before .before .before .before .listed .ensures) (c .before .before .before .before .listed .kept .1 .1 .1 .1 .1 .0) (c .before .before .before .before .listed .kept .1 .1 .1 .1 .1 .1 .0)
+
+pub list-spec : {M : Type 1} → statement M
+list-spec = tie.close (tie.spec listed-requires same-length same-length-2 returns)

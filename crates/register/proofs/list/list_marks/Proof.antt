@@ -1,0 +1,74 @@
+use Rattle.register.proofs.Steps.{list-marks}
+use borrow.Author.Needs.{needs}
+use Rattle.register.proofs.list.list_marks.Statement.{statement}
+use Rattle.register.proofs.list.list_marks.Tie as tie
+use Rattle.register.proofs.list.list_marks.Reads as reads
+use Rattle.register.proofs.list.list_marks.Lts as lts
+use Rattle.primary_search.proofs.list.list.Reads as list-reads
+use Rattle.sorting.proofs.sort.sort_lists.Reads as sort-lists-reads
+use Rattle.table.proofs.tally.visits.Reads as visits-reads
+
+-- src/list.rt:23:17
+mul-words : tie.Need-mul-words
+mul-words c = search needs
+
+-- src/list.rt:24:50
+sub-list : tie.Need-sub-list
+sub-list c = search needs
+
+-- src/list.rt:24:50
+part-list-start : tie.Need-part-list-start
+part-list-start c = search needs
+
+-- src/list.rt:24:50
+part-list-end : tie.Need-part-list-end
+part-list-end c = search needs
+
+-- src/list.rt:24:87
+mul-list : tie.Need-mul-list
+mul-list c = search needs
+
+-- src/list.rt:24:72
+add-list : tie.Need-add-list
+add-list c = search needs
+
+-- src/list.rt:24:9
+list-requires : tie.Need-list-requires
+list-requires c κs = search needs
+
+-- src/list.rt:25:9
+sort-lists-requires : tie.Need-sort-lists-requires
+sort-lists-requires c κs = search needs
+
+-- src/list.rt:26:24
+visits-requires : tie.Need-visits-requires
+visits-requires c κs = search needs
+
+-- src/list.rt:19:1
+same-length : tie.Need-same-length
+same-length c = search needs
+
+-- src/list.rt:19:1
+same-length-2 : tie.Need-same-length-2
+same-length-2 c = search needs
+
+-- src/list.rt:19:1
+returns : tie.Need-returns
+returns c = list-marks _ _ _ _ _ _ _ _ _ _ _ (c .before .before .before .before .before .before .before .before .before .before .list .ensures) (c .before .before .before .before .before .before .before .before .before .before .list .kept .1 .1 .0) (c .visits .ensures) (c .before .before .before .before .before .sort-lists .ensures .0) (c .before .before .before .before .before .sort-lists .ensures .1)
+
+pub list-marks-spec : {M : Type 1} → statement M
+list-marks-spec =
+    tie.close
+    (tie.spec
+    mul-words
+    sub-list
+    part-list-start
+    part-list-end
+    mul-list
+    add-list
+    list-requires
+    sort-lists-requires
+    visits-requires
+    same-length
+    same-length-2
+    returns)

@@ -1,0 +1,92 @@
+use Rattle.register.specs.Mirrors.{strike♯, strikeOwn♯}
+use mathlib.Core.Path.{sym, ap, _∙_}
+use native.Mathlib.Omega.{arith}
+use Rattle.geometry.specs.Values.{markOutcome}
+use Rattle.register.proofs.Own.{own-fits}
+use Rattle.register.proofs.Steps.{update-not-table, update-outside, update-own}
+use borrow.Author.Needs.{needs}
+use Rattle.register.proofs.strike.struck.Statement.{statement}
+use Rattle.register.proofs.strike.struck.Tie as tie
+use Rattle.register.proofs.strike.struck.Reads as reads
+use Rattle.register.proofs.strike.struck.Lts as lts
+use Rattle.checking.proofs.header.own_words.Reads as own-words-reads
+use Rattle.geometry.proofs.Mark.new.Reads as new-reads
+use Rattle.register.proofs.strike.strike_own.Reads as strike-own-reads
+
+-- src/strike.rt:36:9
+own-words-requires : tie.Need-own-words-requires
+own-words-requires c κs = search needs
+
+-- src/strike.rt:38:9
+same-length : tie.Need-same-length
+same-length c = search needs
+
+-- src/strike.rt:38:9
+returns : tie.Need-returns
+unfolding strike♯
+returns c = update-not-table _ _ (c .before .own-words .ensures) strikeOwn♯ _ (c .if1 .taken)
+
+-- src/strike.rt:40:11
+new-requires : tie.Need-new-requires
+new-requires c κs = search needs
+
+-- src/strike.rt:41:29
+enum-told : tie.Need-enum-told
+enum-told c = search needs
+
+-- src/strike.rt:42:24
+enum-known-m : tie.Need-enum-known-m
+enum-known-m c = search needs
+
+-- src/strike.rt:42:41
+sub-strike-own : tie.Need-sub-strike-own
+sub-strike-own c = search needs
+
+-- src/strike.rt:42:41
+part-strike-own-start : tie.Need-part-strike-own-start
+part-strike-own-start c = search needs
+
+-- src/strike.rt:42:41
+part-strike-own-end : tie.Need-part-strike-own-end
+part-strike-own-end c = omega (arith, c .before .before .before .before .before .own-words .ensures, own-fits (c .before .before .before .before .before .before .before .before .args .table .now))
+
+-- src/strike.rt:42:30
+strike-own-requires : tie.Need-strike-own-requires
+strike-own-requires c κs = search needs
+
+-- src/strike.rt:33:1
+same-length-2 : tie.Need-same-length-2
+same-length-2 c = search needs
+
+-- src/strike.rt:33:1
+returns-2 : tie.Need-returns-2
+unfolding strike♯
+returns-2 c = update-outside _ _ (c .before .before .before .before .own-words .ensures) strikeOwn♯ _ (c .before .before .before .if1 .left) 5 (sym (c .before .before .new .ensures) ∙ ap markOutcome (c .enum-told .given .1))
+
+-- src/strike.rt:33:1
+same-length-3 : tie.Need-same-length-3
+same-length-3 c = search needs
+
+-- src/strike.rt:33:1
+returns-3 : tie.Need-returns-3
+unfolding strike♯
+returns-3 c = update-own _ _ (c .before .before .before .before .before .before .before .before .before .own-words .ensures) strikeOwn♯ _ (c .before .before .before .before .before .before .before .before .if1 .left) _ (sym (c .before .before .before .before .before .before .before .new .ensures) ∙ ap markOutcome (c .before .before .before .before .before .m .given .1)) _ _ (c .before .before .strike-own .ensures)
+
+pub struck-spec : {M : Type 1} → statement M
+struck-spec =
+    tie.close
+    (tie.spec
+    own-words-requires
+    same-length
+    returns
+    new-requires
+    enum-told
+    enum-known-m
+    sub-strike-own
+    part-strike-own-start
+    part-strike-own-end
+    strike-own-requires
+    same-length-2
+    returns-2
+    same-length-3
+    returns-3)

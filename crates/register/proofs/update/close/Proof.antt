@@ -1,0 +1,23 @@
+use Rattle.register.specs.Mirrors.{closed♯}
+use borrow.Author.Needs.{needs}
+use Rattle.register.proofs.update.close.Statement.{statement}
+use Rattle.register.proofs.update.close.Tie as tie
+use Rattle.register.proofs.update.close.Reads as reads
+use Rattle.register.proofs.update.close.Lts as lts
+use Rattle.table.proofs.header.put_open.Reads as put-open-reads
+
+-- src/update.rt:14:5
+put-open-requires : tie.Need-put-open-requires
+put-open-requires c κs = search needs
+
+-- src/update.rt:11:1
+same-length : tie.Need-same-length
+same-length c = search needs
+
+-- src/update.rt:11:1
+returns : tie.Need-returns
+unfolding closed♯
+returns c = rw (← c .before .before .put-open .ensures)
+
+pub close-spec : {M : Type 1} → statement M
+close-spec = tie.close (tie.spec put-open-requires same-length returns)

@@ -1,0 +1,143 @@
+-- What a call does, on any words whatever (document 01, "Where each call may stop"): the one definition that the contracts of all six calls cite, and of
+-- which a run is made (Run). Assumes nothing.
+use Prim.Native.Nat.{ℕ, _*_, _≤_, _<_}
+use mathlib.Core.Path.{_≡_}
+use mathlib.Core.Logic.{_≢_, _⊎_}
+use mathlib.Core.Bool.{Bool, true, false}
+use mathlib.Core.List.{List, []}
+use mathlib.Core.Option.{none}
+use lib.ListN.{length, getD, take, drop}
+use Rattle.model.specs.Lists.{if_then_else_}
+use Rattle.model.specs.Sizes.{W}
+use Rattle.model.specs.Tree.{marksOf}
+use Rattle.model.specs.Sheet.{Mark, Box, Main}
+use Rattle.model.specs.Refusals.{Outcome, accepted, refused, openTable, enterMark, enterBox}
+use Rattle.model.specs.History.{Call, openFor, insert, strike, count, list, check, State, Answer, refusal, updated, counted, listedIn, whichList, answer, next}
+use Rattle.table.specs.Layout.{openPlace}
+use Rattle.table.specs.Marks.{markWords}
+use Rattle.twofold.specs.Sound.{capacityOf, liveOf, Holding, SoundTable}
+use Rattle.checking.specs.Header.{notTable}
+use Rattle.register.specs.Answers.{inList}
+
+-- the words that a call is lent: a table and, for a list, two lists
+pub record Lent : Type 0 where
+  pub table : List ℕ
+  pub first : List ℕ
+  pub second : List ℕ
+
+abbrev pub lends : List ℕ → List ℕ → List ℕ → Lent
+lends xs f s = record { table = xs; first = f; second = s }
+
+abbrev pub alone : List ℕ → Lent
+alone xs = lends xs [] []
+
+-- the lengths lent are those that the call says: the history is fed them
+abbrev pub LengthsOf : Call → Lent → Type 0
+LengthsOf (openFor c words) w = words ≡ length (w .table)
+LengthsOf (list b first second) w = (first ≡ length (w .first)) × (second ≡ length (w .second))
+LengthsOf (insert m) w = Unit {0}
+LengthsOf (strike m) w = Unit {0}
+LengthsOf (count b) w = Unit {0}
+LengthsOf check w = Unit {0}
+
+-- The rows that go by arguments, lengths and header alone, first of those that apply: 1, 2; 3, 5; 3, 6; 3. 0 where none does.
+abbrev pub numberOf : {A : Type 0} → Outcome A → ℕ
+numberOf (accepted a) = 0
+numberOf (refused n) = n
+
+unfoldable pub early : Call → List ℕ → ℕ
+early (openFor c words) xs = numberOf (openTable c words)
+early (insert m) xs = if notTable xs then 3 else numberOf (enterMark m)
+early (strike m) xs = if notTable xs then 3 else numberOf (enterMark m)
+early (count b) xs = if notTable xs then 3 else numberOf (enterBox b)
+early (list b first second) xs = if notTable xs then 3 else numberOf (enterBox b)
+early check xs = if notTable xs then 3 else 0
+
+-- a table's own words, W(C) of those lent
+abbrev pub own : List ℕ → List ℕ
+own xs = take (W (capacityOf xs)) xs
+
+-- which calls write in the table, and which of them update a tree
+abbrev pub opensTable : Call → Bool
+opensTable (openFor c words) = true
+opensTable (insert m) = false
+opensTable (strike m) = false
+opensTable (count b) = false
+opensTable (list b first second) = false
+opensTable check = false
+
+abbrev pub updates : Call → Bool
+updates (openFor c words) = false
+updates (insert m) = true
+updates (strike m) = true
+updates (count b) = false
+updates (list b first second) = false
+updates check = false
+
+-- The rows that rest on the tree, and the accepted answers: where no early row applies a call gives one of these, also on a table that is not sound.
+-- "Number 4 never comes from a sound table."
+pub data Later (xs : List ℕ) : Call → Answer → Type 0 where
+  opens : {c words : ℕ} → Later xs (openFor c words) (updated 0 0)
+  present : {m : Mark} → Later xs (insert m) (refusal 8 0)
+  full : {m : Mark} → liveOf xs ≡ capacityOf xs → Later xs (insert m) (refusal 7 0)
+  inserts : {m : Mark} {live rebuilt : ℕ} → liveOf xs < capacityOf xs → Later xs (insert m) (updated live rebuilt)
+  missing : {m : Mark} → Later xs (strike m) (refusal 9 0)
+  strikes : {m : Mark} {live rebuilt : ℕ} → Later xs (strike m) (updated live rebuilt)
+  counts : {b : Box} {k visits : ℕ} → Later xs (count b) (counted k visits)
+  short : {b : Box} {first second k : ℕ} → (first < 3 * k) ⊎ (second < 3 * k) → Later xs (list b first second) (refusal 10 k)
+  lists : {b : Box} {first second visits : ℕ} {l : List Mark} → 3 * length l ≤ first → 3 * length l ≤ second
+      → Later xs (list b first second) (listedIn (whichList (length l)) l visits)
+  sound : {T : Main} → Holding (own xs) T → Later xs check (updated (length (marksOf T)) 0)
+  unsound : {c : Call} → opensTable c ≡ false → (SoundTable (own xs) → ⊥) → Later xs c (refusal 4 0)
+
+-- how far a call may write: W(C), of the C handed in or of the table's own
+abbrev pub reach : Call → List ℕ → ℕ
+reach (openFor c words) xs = W c
+reach (insert m) xs = W (capacityOf xs)
+reach (strike m) xs = W (capacityOf xs)
+reach (count b) xs = 0
+reach (list b first second) xs = 0
+reach check xs = 0
+
+-- What a call with that number leaves in the table. "Only open, insert and strike write in the table." A refusal "changes no lent word, save this: an
+-- insert or strike that gives 4 sets word 0 to 0 and may have written other words up to W(C)".
+pub data Leaves (c : Call) (xs : List ℕ) : ℕ → List ℕ → Type 0 where
+  unchanged : {n : ℕ} → Leaves c xs n xs
+  written : {ys : List ℕ} → length ys ≡ length xs → drop (reach c xs) ys ≡ drop (reach c xs) xs → Leaves c xs 0 ys
+  closed : {ys : List ℕ} → updates c ≡ true → getD ys openPlace 0 ≡ 0 → length ys ≡ length xs → drop (reach c xs) ys ≡ drop (reach c xs) xs
+      → Leaves c xs 4 ys
+
+-- What it leaves in the lists (document 01, "The list"): the marks listed, "Three words a mark", in the list that `which` names; "Words past 3k are
+-- unchanged in both". A refusal lists nothing, so it changes no word.
+pub record LeavesLists (a : Answer) (before after : Lent) : Type 0 where
+  pub answer : take (3 * length (a .listed)) (inList (a .which) (after .first) (after .second)) ≡ markWords (a .listed)
+  pub pastFirst : drop (3 * length (a .listed)) (after .first) ≡ drop (3 * length (a .listed)) (before .first)
+  pub pastSecond : drop (3 * length (a .listed)) (after .second) ≡ drop (3 * length (a .listed)) (before .second)
+
+-- an accepted open leaves a sound table of that capacity without marks, whatever the words were
+abbrev pub Starts : Call → List ℕ → Type 0
+Starts (openFor c words) ys = (capacityOf ys ≡ c) × Holding (own ys) none
+Starts (insert m) ys = Unit {0}
+Starts (strike m) ys = Unit {0}
+Starts (count b) ys = Unit {0}
+Starts (list b first second) ys = Unit {0}
+Starts check ys = Unit {0}
+
+-- on a sound table, which holds the tree T, the answer is the history's (the plain list is T's marks), and the table left holds the next tree
+abbrev pub stateOf : List ℕ → Main → State
+stateOf xs T = record { capacity = capacityOf xs; plain = marksOf T; tree = T }
+
+pub record Follows (c : Call) (s : State) (ys : List ℕ) (a : Answer) : Type 0 where
+  pub answers : a ≡ answer c s
+  pub capacity : capacityOf ys ≡ next c s .capacity
+  pub holds : Holding (own ys) (next c s .tree)
+
+-- the call c, lent the words `before`, leaves the words `after` and answers a
+pub record Performs (c : Call) (before after : Lent) (a : Answer) : Type 0 where
+  pub lengths : LengthsOf c before
+  pub refuses : early c (before .table) ≢ 0 → a ≡ refusal (early c (before .table)) 0
+  pub later : early c (before .table) ≡ 0 → Later (before .table) c a
+  pub leaves : Leaves c (before .table) (a .number) (after .table)
+  pub leavesLists : LeavesLists a before after
+  pub starts : a .number ≡ 0 → Starts c (after .table)
+  pub follows : (T : Main) → Holding (own (before .table)) T → Follows c (stateOf (before .table) T) (after .table) a

@@ -1,0 +1,45 @@
+// Count: the planner's inner loop.
+ghost use mathlib.Core.Path.{_≡_};
+ghost use Rattle.model.specs.Sheet.{box};
+ghost use Rattle.model.specs.History as history;
+ghost use Rattle.geometry.specs.Values.{boxValue};
+ghost use Rattle.register.specs.Answers.{countAnswer};
+ghost use Rattle.register.specs.Mirrors.{countOwn♯, count♯};
+ghost use Rattle.register.specs.Performs.{Performs, alone};
+use crate::answers::Count;
+use checking::header;
+use geometry::Box;
+use geometry::NewBox;
+use table::limits;
+use table::tally;
+
+// Counts in the table's own words.
+fn count_own(t: &[u32], b: Box) -> Count
+    ensures { λ r. ⌜ countAnswer r ≡ countOwn♯ (boxValue b) (now (t .entry)) ⌝ }
+{
+    let tally = primary_search::count::count(t, b);
+    let visits = tally::visits(tally);
+    if limits::MOST < visits {
+        return Count::Unsound;
+    }
+    Count::Counted(tally::found(tally), visits)
+}
+
+fn counted(table: &[u32], x1: u32, x2: u32, y1: u32, y2: u32) -> Count
+    ensures { λ r. ⌜ countAnswer r ≡ count♯ (box x1 x2 y1 y2) (now (table .entry)) ⌝ }
+{
+    let own = header::own_words(table);
+    if own == 0 {
+        return Count::NotTable;
+    }
+    match Box::new(x1, x2, y1, y2) {
+        NewBox::Crossed => Count::Crossed,
+        NewBox::Valid(b) => count_own(&table[0..own], b),
+    }
+}
+
+pub fn count(table: &[u32], x1: u32, x2: u32, y1: u32, y2: u32) -> Count
+    ensures { λ r. ⌜ Performs (history.count (box x1 x2 y1 y2)) (alone (now (table .entry))) (alone (now (table .entry))) (countAnswer r) ⌝ }
+{
+    counted(table, x1, x2, y1, y2)
+}

@@ -1,0 +1,53 @@
+// Insert: enters a mark.
+ghost use mathlib.Core.Path.{_≡_};
+ghost use Rattle.model.specs.Sheet.{mark};
+ghost use Rattle.model.specs.History as history;
+ghost use Rattle.geometry.specs.Values.{markValue};
+ghost use Rattle.table.specs.After.{after};
+ghost use Rattle.register.specs.Answers.{updateAnswer};
+ghost use Rattle.register.specs.Mirrors.{insertOwn♯, insert♯};
+ghost use Rattle.register.specs.Performs.{Performs, alone};
+use crate::answers::Update;
+use crate::update;
+use checking::header;
+use geometry::Mark;
+use geometry::NewMark;
+use primary_search::find;
+use table::limits;
+
+// Inserts into the table's own words.
+fn insert_own(t: &mut [u32], m: Mark) -> Update
+    ensures { λ r. ⌜ after (updateAnswer r) (now (t .exit)) ≡ insertOwn♯ (markValue m) (now (t .entry)) ⌝ }
+{
+    let s = find::find(t, m);
+    if s == limits::DAMAGED {
+        return update::close(t);
+    }
+    if s == find::ABSENT {
+        if table::header::live(t) == table::header::capacity(t) {
+            return Update::Full;
+        }
+        let rebuilt = primary::insert::insert(t, m);
+        return update::settle(t, rebuilt);
+    }
+    Update::Present
+}
+
+fn inserted(table: &mut [u32], x: u32, y: u32, tag: u32) -> Update
+    ensures { λ r. ⌜ after (updateAnswer r) (now (table .exit)) ≡ insert♯ (mark x y tag) (now (table .entry)) ⌝ }
+{
+    let own = header::own_words(table);
+    if own == 0 {
+        return Update::NotTable;
+    }
+    match Mark::new(x, y, tag) {
+        NewMark::Outside => Update::Outside,
+        NewMark::Valid(m) => insert_own(&mut table[0..own], m),
+    }
+}
+
+pub fn insert(table: &mut [u32], x: u32, y: u32, tag: u32) -> Update
+    ensures { λ r. ⌜ Performs (history.insert (mark x y tag)) (alone (now (table .entry))) (alone (now (table .exit))) (updateAnswer r) ⌝ }
+{
+    inserted(table, x, y, tag)
+}

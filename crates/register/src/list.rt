@@ -1,0 +1,87 @@
+// List: the marks of a box in two lent lists.
+ghost use mathlib.Core.Path.{_≡_};
+ghost use Prim.Native.Nat.{_*_, _≤_};
+ghost use lib.ListN.{length};
+ghost use Rattle.model.specs.Sheet.{box};
+ghost use Rattle.model.specs.History as history;
+ghost use Rattle.geometry.specs.Values.{boxValue};
+ghost use Rattle.register.specs.Answers.{listAnswer, listFigures};
+ghost use Rattle.register.specs.Mirrors.{ListedOwn, ListsOwn, Lists};
+ghost use Rattle.register.specs.Performs.{Performs, lends};
+use crate::answers::Listing;
+use checking::header;
+use geometry::Box;
+use geometry::NewBox;
+use table::limits;
+use table::tally;
+
+// Lists the k marks that a count has found. Nothing is refused from here on: a refusal changes no lent word.
+fn list_marks(t: &[u32], b: Box, first: &mut [u32], second: &mut [u32], k: u32) -> Listing
+    requires { ⌜ (k ≤ 65536) × (3 * k ≤ length (now first)) × (3 * k ≤ length (now second)) ⌝ }
+    ensures { λ r. ⌜ ListedOwn (boxValue b) k (now (t .entry)) (now (first .entry)) (now (second .entry)) (now (first .exit)) (now (second .exit)) (listFigures r) ⌝ }
+{
+    let words = 3 * (k as usize);
+    let tally = primary_search::list::list(t, b, &mut first[0..words], limits::MOST + 2 * k);
+    let which = sorting::sort::sort_lists(first, second, k);
+    Listing::Listed(k, tally::visits(tally), which)
+}
+
+// Lists from the table's own words. The count comes first: it tells what the lists must hold, and finds most damage before anything is written.
+fn list_own(t: &[u32], b: Box, first: &mut [u32], second: &mut [u32]) -> Listing
+    ensures { λ r. ⌜ ListsOwn (boxValue b) (now (t .entry)) (now (first .entry)) (now (second .entry)) (now (first .exit)) (now (second .exit)) (listFigures r) ⌝ }
+{
+    let tally = primary_search::count::count(t, b);
+    if limits::MOST < tally::visits(tally) {
+        return Listing::Unsound;
+    }
+    let k = tally::found(tally);
+    if sizes::LARGEST_CAPACITY < k {
+        return Listing::Unsound;
+    }
+    let words = 3 * (k as usize);
+    if first.len() < words {
+        return Listing::Short(k);
+    }
+    if second.len() < words {
+        return Listing::Short(k);
+    }
+    list_marks(t, b, first, second, k)
+}
+
+fn listed(
+    table: &[u32],
+    x1: u32,
+    x2: u32,
+    y1: u32,
+    y2: u32,
+    first: &mut [u32],
+    second: &mut [u32],
+) -> Listing
+    ensures { λ r. ⌜ Lists (box x1 x2 y1 y2) (now (table .entry)) (now (first .entry)) (now (second .entry)) (now (first .exit)) (now (second .exit)) (listFigures r) ⌝ }
+{
+    let own = header::own_words(table);
+    if own == 0 {
+        return Listing::NotTable;
+    }
+    match Box::new(x1, x2, y1, y2) {
+        NewBox::Crossed => Listing::Crossed,
+        NewBox::Valid(b) => list_own(&table[0..own], b, first, second),
+    }
+}
+
+pub fn list(
+    table: &[u32],
+    x1: u32,
+    x2: u32,
+    y1: u32,
+    y2: u32,
+    first: &mut [u32],
+    second: &mut [u32],
+) -> Listing
+    ensures { λ r. ⌜ Performs (history.list (box x1 x2 y1 y2) (length (now (first .entry))) (length (now (second .entry))))
+        (lends (now (table .entry)) (now (first .entry)) (now (second .entry)))
+        (lends (now (table .entry)) (now (first .exit)) (now (second .exit)))
+        (listAnswer r (now (first .exit)) (now (second .exit))) ⌝ }
+{
+    listed(table, x1, x2, y1, y2, first, second)
+}

@@ -1,0 +1,50 @@
+// Strike: takes a mark out.
+ghost use mathlib.Core.Path.{_≡_};
+ghost use Rattle.model.specs.Sheet.{mark};
+ghost use Rattle.model.specs.History as history;
+ghost use Rattle.geometry.specs.Values.{markValue};
+ghost use Rattle.table.specs.After.{after};
+ghost use Rattle.register.specs.Answers.{updateAnswer};
+ghost use Rattle.register.specs.Mirrors.{strikeOwn♯, strike♯};
+ghost use Rattle.register.specs.Performs.{Performs, alone};
+use crate::answers::Update;
+use crate::update;
+use checking::header;
+use geometry::Mark;
+use geometry::NewMark;
+use primary_search::find;
+use table::limits;
+
+// Strikes from the table's own words.
+fn strike_own(t: &mut [u32], m: Mark) -> Update
+    ensures { λ r. ⌜ after (updateAnswer r) (now (t .exit)) ≡ strikeOwn♯ (markValue m) (now (t .entry)) ⌝ }
+{
+    let s = find::find(t, m);
+    if s == limits::DAMAGED {
+        return update::close(t);
+    }
+    if s == find::ABSENT {
+        return Update::Absent;
+    }
+    let rebuilt = primary::strike::strike(t, m, s);
+    update::settle(t, rebuilt)
+}
+
+fn struck(table: &mut [u32], x: u32, y: u32, tag: u32) -> Update
+    ensures { λ r. ⌜ after (updateAnswer r) (now (table .exit)) ≡ strike♯ (mark x y tag) (now (table .entry)) ⌝ }
+{
+    let own = header::own_words(table);
+    if own == 0 {
+        return Update::NotTable;
+    }
+    match Mark::new(x, y, tag) {
+        NewMark::Outside => Update::Outside,
+        NewMark::Valid(m) => strike_own(&mut table[0..own], m),
+    }
+}
+
+pub fn strike(table: &mut [u32], x: u32, y: u32, tag: u32) -> Update
+    ensures { λ r. ⌜ Performs (history.strike (mark x y tag)) (alone (now (table .entry))) (alone (now (table .exit))) (updateAnswer r) ⌝ }
+{
+    struck(table, x, y, tag)
+}
