@@ -21,9 +21,9 @@ pub extern "C" fn register_open(table: &mut [u32], capacity: u32, live: &mut u32
     ensures { λ r. ⌜ Performs (history.openFor capacity (length (now (table .entry)))) (alone (now (table .entry))) (alone (now (table .exit)))
         (tableGiven r (now (live .exit))) ⌝ }
 {
-    let f = register::open::open(table, capacity).figures();
-    *live = f.live;
-    f.number
+    let opened = register::open::open(table, capacity).figures();
+    *live = opened.live;
+    opened.number
 }
 
 #[no_mangle]
@@ -38,10 +38,10 @@ pub extern "C" fn register_insert(
     ensures { λ r. ⌜ Performs (history.insert (mark x y tag)) (alone (now (table .entry))) (alone (now (table .exit)))
         (updateGiven r (now (live .exit)) (now (rebuilt .exit))) ⌝ }
 {
-    let f = register::insert::insert(table, x, y, tag).figures();
-    *live = f.live;
-    *rebuilt = f.rebuilt;
-    f.number
+    let inserted = register::insert::insert(table, x, y, tag).figures();
+    *live = inserted.live;
+    *rebuilt = inserted.rebuilt;
+    inserted.number
 }
 
 #[no_mangle]
@@ -56,10 +56,10 @@ pub extern "C" fn register_strike(
     ensures { λ r. ⌜ Performs (history.strike (mark x y tag)) (alone (now (table .entry))) (alone (now (table .exit)))
         (updateGiven r (now (live .exit)) (now (rebuilt .exit))) ⌝ }
 {
-    let f = register::strike::strike(table, x, y, tag).figures();
-    *live = f.live;
-    *rebuilt = f.rebuilt;
-    f.number
+    let struck = register::strike::strike(table, x, y, tag).figures();
+    *live = struck.live;
+    *rebuilt = struck.rebuilt;
+    struck.number
 }
 
 #[no_mangle]
@@ -75,10 +75,10 @@ pub extern "C" fn register_count(
     ensures { λ r. ⌜ Performs (history.count (box x1 x2 y1 y2)) (alone (now (table .entry))) (alone (now (table .entry)))
         (countGiven r (now (count .exit)) (now (visits .exit))) ⌝ }
 {
-    let f = register::count::count(table, x1, x2, y1, y2).figures();
-    *count = f.marks;
-    *visits = f.visits;
-    f.number
+    let counted = register::count::count(table, x1, x2, y1, y2).figures();
+    *count = counted.marks;
+    *visits = counted.visits;
+    counted.number
 }
 
 #[no_mangle]
@@ -100,18 +100,18 @@ pub extern "C" fn register_list(
         (listGiven (record { number = r; k = now (count .exit); visits = now (visits .exit); which = now (which .exit) })
         (now (first .exit)) (now (second .exit))) ⌝ }
 {
-    let f = register::list::list(table, x1, x2, y1, y2, first, second).figures();
-    *count = f.marks;
-    *visits = f.visits;
-    *which = f.which;
-    f.number
+    let listed = register::list::list(table, x1, x2, y1, y2, first, second).figures();
+    *count = listed.marks;
+    *visits = listed.visits;
+    *which = listed.which;
+    listed.number
 }
 
 #[no_mangle]
 pub extern "C" fn register_check(table: &[u32], live: &mut u32) -> u32
     ensures { λ r. ⌜ Performs history.check (alone (now (table .entry))) (alone (now (table .entry))) (tableGiven r (now (live .exit))) ⌝ }
 {
-    let f = register::check::check(table).figures();
-    *live = f.live;
-    f.number
+    let checked = register::check::check(table).figures();
+    *live = checked.live;
+    checked.number
 }

@@ -24,7 +24,9 @@ fn insert_own(t: &mut [u32], m: Mark) -> Update
         return update::close(t);
     }
     if s == find::ABSENT {
-        if table::header::live(t) == table::header::capacity(t) {
+        let live = table::header::live(t);
+        let capacity = table::header::capacity(t);
+        if live == capacity {
             return Update::Full;
         }
         let rebuilt = primary::insert::insert(t, m);

@@ -1,5 +1,5 @@
-use Rattle.register.specs.Mirrors.{insertOwn♯, insertFound, settledAfter}
 use borrow.Author.Tests.{eq-eqb, ne-eqb}
+use Rattle.register.specs.Mirrors.{insertOwn♯, insertFound, settledAfter}
 use borrow.Author.Needs.{needs}
 use Rattle.register.proofs.insert.insert_own.Statement.{statement}
 use Rattle.register.proofs.insert.insert_own.Tie as tie
@@ -29,36 +29,36 @@ returns : tie.Need-returns
 unfolding insertOwn♯ insertFound
 returns c = rw (← c .before .before .before .before .before .find .ensures, eq-eqb _ _ (c .before .before .before .before .if1 .taken), ← c .before .before .close .ensures)
 
--- src/insert.rt:27:12
+-- src/insert.rt:27:13
 live-requires : tie.Need-live-requires
 live-requires c κs = search needs
 
--- src/insert.rt:27:38
+-- src/insert.rt:28:13
 capacity-requires : tie.Need-capacity-requires
 capacity-requires c κs = search needs
 
--- src/insert.rt:28:13
+-- src/insert.rt:30:13
 same-length-2 : tie.Need-same-length-2
 same-length-2 c = search needs
 
--- src/insert.rt:28:13
+-- src/insert.rt:30:13
 returns-2 : tie.Need-returns-2
 unfolding insertOwn♯ insertFound
 returns-2 c = rw (← c .before .before .before .before .before .before .before .find .ensures, ne-eqb _ _ (c .before .before .before .before .before .before .if1 .left), eq-eqb _ _ (c .before .before .before .before .before .if2 .taken), ← c .before .before .before .live .ensures, ← c .before .capacity .ensures, eq-eqb _ _ (c .if3 .taken))
 
--- src/insert.rt:30:13
+-- src/insert.rt:32:13
 insert-requires : tie.Need-insert-requires
 insert-requires c κs = search needs
 
--- src/insert.rt:31:9
+-- src/insert.rt:33:9
 settle-requires : tie.Need-settle-requires
 settle-requires c κs = search needs
 
--- src/insert.rt:31:9
+-- src/insert.rt:33:9
 same-length-3 : tie.Need-same-length-3
 same-length-3 c = search needs
 
--- src/insert.rt:31:9
+-- src/insert.rt:33:9
 returns-3 : tie.Need-returns-3
 unfolding insertOwn♯ insertFound settledAfter
 returns-3 c = rw (← c .before .before .before .before .before .before .before .before .before .before .before .before .before .before .before .find .ensures, ne-eqb _ _ (c .before .before .before .before .before .before .before .before .before .before .before .before .before .before .if1 .left), eq-eqb _ _ (c .before .before .before .before .before .before .before .before .before .before .before .before .before .if2 .taken), ← c .before .before .before .before .before .before .before .before .before .before .before .live .ensures, ← c .before .before .before .before .before .before .before .before .before .capacity .ensures, ne-eqb _ _ (c .before .before .before .before .before .before .before .before .if3 .left), ← c .before .before .before .before .before .before .insert .ensures, ← c .before .before .settle .ensures)
