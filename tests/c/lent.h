@@ -1,53 +1,91 @@
-/* Runs of words lent between guard words, random numbers, and W(C). */
+/* Runs of words lent between guard words, with a copy of what stood there; random numbers; and W(C). */
 #ifndef LENT_H
 #define LENT_H
 
 #include <stddef.h>
 #include <stdint.h>
 #include <stdlib.h>
+#include <string.h>
 
-enum { HEADER = 64, GUARD = 64 };
+#ifndef GUARD
+#define GUARD 64    /* words on either side of a run. With 0 valgrind sees each access past a run */
+#endif
+
+enum { HEADER = 64, PER_MARK = 32, PER_LEVEL = 16, LARGEST = 65536 };
 static const uint32_t GUARD_WORD = 0xA5A55A5A;
 
 static uint64_t state = 88172645463325252u;
 
-static uint32_t draw(uint32_t n) {
+/* A random number below n. */
+static inline uint32_t draw(uint32_t n) {
     state ^= state << 13;
     state ^= state >> 7;
     state ^= state << 17;
     return (uint32_t)((state >> 16) % n);
 }
 
-/* D(C), the largest D with 4^D <= 3^D C, and W(C) = 64 + C (32 + 16 D). */
-static uint32_t levels_for(uint32_t capacity) {
-    double ratio = 1;
+static inline int one_in(uint32_t n) { return draw(n) == 0; }
+
+__extension__ typedef unsigned __int128 wide;    /* wide enough for 4^39 */
+
+/* D(C), the largest D with 4^D <= 3^D C, by raising D from 0. */
+static inline uint32_t levels_for(uint32_t capacity) {
+    wide four = 1, three = 1;
     uint32_t d = 0;
-    while (ratio * 4 <= 3.0 * capacity) {
-        ratio = ratio * 4 / 3;
+    while (four * 4 <= three * 3 * capacity) {
+        four *= 4;
+        three *= 3;
         d++;
     }
     return d;
 }
 
-static size_t words_for(uint32_t capacity) { return HEADER + capacity * (32 + 16 * (size_t)levels_for(capacity)); }
+/* W(C) = 64 + C (32 + 16 D). */
+static inline size_t words_for(uint32_t capacity) { return HEADER + capacity * (PER_MARK + PER_LEVEL * (size_t)levels_for(capacity)); }
 
 struct lent {
-    uint32_t *all, *table;
+    uint32_t *all, *word, *kept;
     size_t words;
 };
 
-static struct lent lend(size_t words) {
-    struct lent t = {malloc((words + 2 * GUARD) * sizeof(uint32_t)), NULL, words};
-    if (t.all == NULL) abort();
+static inline void *allocate(size_t bytes) {
+    void *p = malloc(bytes > 0 ? bytes : 1);
+    if (p == NULL) abort();
+    return p;
+}
+
+/* Takes a copy of the words, to compare with later. */
+static inline void keep(struct lent t) { memcpy(t.kept, t.word, t.words * sizeof *t.kept); }
+
+/* The words from one on are as they were kept. */
+static inline int unchanged_from(struct lent t, size_t from) {
+    return from >= t.words || memcmp(t.kept + from, t.word + from, (t.words - from) * sizeof *t.kept) == 0;
+}
+
+static inline void scribble(struct lent t) {
+    for (size_t i = 0; i < t.words; i++) t.word[i] = draw(UINT32_MAX);
+    keep(t);
+}
+
+/* A run of that many words, of random ones. */
+static inline struct lent lend(size_t words) {
+    size_t bytes = (words + 2 * GUARD) * sizeof(uint32_t);
+    struct lent t = {allocate(bytes), NULL, allocate(words * sizeof(uint32_t)), words};
     for (size_t i = 0; i < words + 2 * GUARD; i++) t.all[i] = GUARD_WORD;
-    t.table = t.all + GUARD;
+    t.word = t.all + GUARD;
+    scribble(t);
     return t;
 }
 
-static int guarded(struct lent t) {
-    for (size_t i = 0; i < GUARD; i++)
+static inline int guarded(struct lent t) {
+    for (size_t i = GUARD; i-- > 0;)
         if (t.all[i] != GUARD_WORD || t.all[GUARD + t.words + i] != GUARD_WORD) return 0;
     return 1;
+}
+
+static inline void take_back(struct lent t) {
+    free(t.all);
+    free(t.kept);
 }
 
 #endif

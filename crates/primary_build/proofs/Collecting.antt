@@ -1,5 +1,5 @@
 -- On words that hold a tree, the mirror of the collection writes the tree's slots but one into run A, in order, and nothing else. Assumes nothing.
-use Prim.Native.Nat.{ℕ, zero, suc, _+_, _*_, _/_, _%_, _≤_, _<_}
+use Prim.Native.Nat.{ℕ, zero, suc, _+_, _-_, _*_, _/_, _%_, _≤_, _<_}
 use mathlib.Core.Path.{_≡_, refl, sym, ap}
 use mathlib.Core.Bool.{not}
 use mathlib.Core.List.{List, [], _∷_, _++_}
@@ -22,7 +22,7 @@ use Rattle.table.specs.After.{after}
 use Rattle.nodes.proofs.Frames.{sets-append, Region}
 use Rattle.nodes.proofs.Held.{held-left, held-right, held-frame}
 use Rattle.secondary_build.proofs.Collecting.{run-frame}
-use Rattle.primary_build.specs.Collect.{collectBoth, collectLeaf, collectAt, collectBut♯}
+use Rattle.primary_build.specs.Collect.{collectParts, collectBoth, collectLeaf, collectAt, collectBut♯}
 
 -- the slots of a list but s
 abbrev pub without : ℕ → List ℕ → List ℕ
@@ -77,25 +77,26 @@ module _ (s : ℕ) where
   pub without-sorted : {A : Axis ℕ Box} {l : List ℕ} → Sorted A l → Sorted A (without s l)
   without-sorted h = filterBy-sorted (λ q. not (eqb q s)) h
 
-module _ {I : Type 0} (f : ℕ → Mark) (C but most : ℕ) where
-  pub collectBut-holds : (fuel : ℕ) (t : Tree ℕ I) (taken : ℕ) (xs : List ℕ) → Region mainPlace C (length xs) → Held alongX f mainPlace C xs t
-      → depth t < fuel → taken + weight t ≤ most → taken + weight t ≤ C
-      → collectBut♯ fuel C but most (number t) taken xs
+module _ {I : Type 0} (f : ℕ → Mark) (C but : ℕ) where
+  pub collectBut-holds : (fuel : ℕ) (t : Tree ℕ I) (w taken : ℕ) (xs : List ℕ) → w ≡ weight t → Region mainPlace C (length xs)
+      → Held alongX f mainPlace C xs t → depth t < fuel → taken + weight t ≤ C
+      → collectBut♯ fuel C but w (number t) taken xs
       ≡ after (taken + length (without but (marks t))) (sets xs (runPlace C taken) (without but (marks t)))
-  unfolding collectBut♯ collectAt collectLeaf collectBoth
-  collectBut-holds zero t taken xs g h d m k = absurd (omega arith)
-  collectBut-holds (suc n) (leaf s) taken xs g h d m k =
+  unfolding collectBut♯ collectAt collectLeaf collectBoth collectParts
+  collectBut-holds zero t w taken xs e g h d k = absurd (omega arith)
+  collectBut-holds (suc n) (leaf s) w taken xs e g h d k =
       let even : (2 * s) % 2 ≡ 0 = omega arith in
       let half : (2 * s) / 2 ≡ s = omega arith in
       let none : taken + 0 ≡ taken = omega arith in
       by-cases (eqb s but)
-      (λ t. rw (lt-leb most taken (omega arith), eq-eqb ((2 * s) % 2) 0 even, half, t, none))
-      (λ u. rw (lt-leb most taken (omega arith), eq-eqb ((2 * s) % 2) 0 even, half, u))
-  collectBut-holds (suc n) (node i l r) taken xs g h d m k =
+      (λ t. rw (lt-leb C taken (omega arith), eq-eqb ((2 * s) % 2) 0 even, half, t, none))
+      (λ u. rw (lt-leb C taken (omega arith), eq-eqb ((2 * s) % 2) 0 even, half, u))
+  collectBut-holds (suc n) (node i l r) w taken xs is g h d k =
       let odd : ((2 * least r + 1) % 2 ≡ 0 → ⊥) = omega arith in
       let half : (2 * least r + 1) / 2 ≡ least r = omega arith in
-      let pos = weight-pos l in
-      let w = weight-marks l in
+      let posLeft = weight-pos l in
+      let posRight = weight-pos r in
+      let m = weight-marks l in
       let short = without-short but (marks l) in
       let vs : List ℕ = without but (marks l) in
       let us : List ℕ = without but (marks r) in
@@ -104,12 +105,14 @@ module _ {I : Type 0} (f : ℕ → Mark) (C but most : ℕ) where
       let hr : Held alongX f mainPlace C ys r = held-frame alongX f g (omega arith) (omega arith) a (λ s p. absurd p) r (λ s p. absurd p) (held-right h) in
       let e : runPlace C taken + length vs ≡ runPlace C (taken + length vs) = omega arith in
       rw (
-        lt-leb most taken (omega arith),
+        lt-leb C taken (omega arith),
         ne-eqb ((2 * least r + 1) % 2) 0 odd,
         half,
         h .records .0,
-        collectBut-holds n l taken xs g (held-left h) (omega arith) (omega arith) (omega arith),
-        collectBut-holds n r (taken + length vs) ys (rw (a .long) g) hr (omega arith) (omega arith) (omega arith),
+        ne-eqb (weight l) 0 (omega arith),
+        lt-leb w (weight l) (omega arith),
+        collectBut-holds n l (weight l) taken xs refl g (held-left h) (omega arith) (omega arith),
+        collectBut-holds n r (w - weight l) (taken + length vs) ys (omega arith) (rw (a .long) g) hr (omega arith) (omega arith),
         without-append but (marks l) (marks r),
         sets-append vs us xs (runPlace C taken),
         e,

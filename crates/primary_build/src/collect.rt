@@ -12,22 +12,23 @@ pub const LOST: u32 = 4294967295;
 // No slot of any table.
 pub const NO_SLOT: u32 = 4294967295;
 
-// Writes the slots beneath a node, but for the slot `but`, into run A after the `taken` that it has, and gives how many it has then; LOST past `most`.
+// Writes the slots beneath a node of that weight, but for the slot `but`, into run A after the `taken` that it has, and gives how many it has then; LOST
+// where the words hold no such tree. Each child is given a part of the weight, so on any words no more leaves are met than the weight says.
 pub fn collect(
     t: &mut [u32],
     capacity: u32,
     node: Primary,
     but: u32,
     taken: u32,
-    most: u32,
+    weight: u32,
     fuel: u32,
 ) -> u32
-    ensures { λ r. ⌜ after r (now (t .exit)) ≡ collectBut♯ fuel capacity but most (node .0) taken (now (t .entry)) ⌝ }
+    ensures { λ r. ⌜ after r (now (t .exit)) ≡ collectBut♯ fuel capacity but weight (node .0) taken (now (t .entry)) ⌝ }
 {
     if fuel == 0 {
         return LOST;
     }
-    if most <= taken {
+    if capacity <= taken {
         return LOST;
     }
     let s = node.slot();
@@ -41,6 +42,13 @@ pub fn collect(
     let p = PrimaryRecord::at(t, s);
     let l = p.left;
     let r = p.right;
-    let half = collect(t, capacity, l.node, but, taken, most, fuel - 1);
-    collect(t, capacity, r.node, but, half, most, fuel - 1)
+    let part = l.weight;
+    if part == 0 {
+        return LOST;
+    }
+    if weight <= part {
+        return LOST;
+    }
+    let half = collect(t, capacity, l.node, but, taken, part, fuel - 1);
+    collect(t, capacity, r.node, but, half, weight - part, fuel - 1)
 }

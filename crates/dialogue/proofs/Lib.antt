@@ -1,0 +1,4 @@
+-- What the answers of calls leave written; the whole program, one theorem over every input; and bytes fed one after the other, as loops feed them.
+pub mod Answering
+pub mod Printing
+pub mod Feeding

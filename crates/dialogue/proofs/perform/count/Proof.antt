@@ -1,0 +1,38 @@
+-- `count` meets its contract. Assumes nothing.
+use mathlib.Core.Path.{refl}
+use Rattle.model.specs.History as history
+use Rattle.geometry.specs.Values.{boxValue}
+use Rattle.register.specs.Answers.{countGiven}
+use Rattle.lines.specs.Commands.{count}
+use Rattle.dialogue.proofs.Answering.{answered-first}
+use borrow.Author.Needs.{needs}
+use Rattle.dialogue.proofs.perform.count.Statement.{statement}
+use Rattle.dialogue.proofs.perform.count.Tie as tie
+use Rattle.dialogue.proofs.perform.count.Reads as reads
+use Rattle.dialogue.proofs.perform.count.Lts as lts
+use Rattle.lines.proofs.response.put_first.Reads as put-first-reads
+use Rattle.register.proofs.answers.Count.figures.Reads as figures-reads
+use Rattle.register.proofs.count.count.Reads as count-reads
+
+count-requires : tie.Need-count-requires
+count-requires c κs = search needs
+
+figures-requires : tie.Need-figures-requires
+figures-requires c κs = search needs
+
+put-first-requires : tie.Need-put-first-requires
+put-first-requires c κs = search needs
+
+same-length : tie.Need-same-length
+same-length c = search needs
+
+returns : tie.Need-returns
+returns c =
+    let b = boxValue (c .before .before .before .before .before .before .before .before .args .b) in
+    let f = c .before .before .before .before .figures in
+    answered-first (count b) (history.count b) _ _ (countGiven (f .result .number) (f .result .marks) (f .result .visits)) (rw (← f .ensures) at (c .before .before .before .before .before .count .ensures))
+    refl (c .before .before .put-first .ensures)
+
+pub count-spec : {M : Type 1} → statement M
+count-spec =
+    tie.close (tie.spec count-requires figures-requires put-first-requires same-length returns)

@@ -1,0 +1,48 @@
+-- `insert` meets its contract. Assumes nothing.
+use mathlib.Core.Path.{refl}
+use Rattle.model.specs.History as history
+use Rattle.geometry.specs.Values.{markValue}
+use Rattle.register.specs.Answers.{updateGiven}
+use Rattle.lines.specs.Commands.{insert}
+use Rattle.dialogue.proofs.Answering.{answered-first}
+use borrow.Author.Needs.{needs}
+use Rattle.dialogue.proofs.perform.insert.Statement.{statement}
+use Rattle.dialogue.proofs.perform.insert.Tie as tie
+use Rattle.dialogue.proofs.perform.insert.Reads as reads
+use Rattle.dialogue.proofs.perform.insert.Lts as lts
+use Rattle.lines.proofs.response.put_first.Reads as put-first-reads
+use Rattle.register.proofs.answers.Update.figures.Reads as figures-reads
+use Rattle.register.proofs.insert.insert.Reads as insert-reads
+
+insert-requires : tie.Need-insert-requires
+insert-requires c κs = search needs
+
+figures-requires : tie.Need-figures-requires
+figures-requires c κs = search needs
+
+put-first-requires : tie.Need-put-first-requires
+put-first-requires c κs = search needs
+
+same-length : tie.Need-same-length
+same-length c = search needs
+
+same-length-2 : tie.Need-same-length-2
+same-length-2 c = search needs
+
+returns : tie.Need-returns
+returns c =
+    let m = markValue (c .before .before .before .before .before .before .before .before .before .before .before .args .m) in
+    let f = c .before .before .before .before .figures in
+    answered-first (insert m) (history.insert m) _ _ (updateGiven (f .result .number) (f .result .live) (f .result .rebuilt)) (rw (← f .ensures) at (c .before .before .before .before .before .before .before .insert .ensures))
+    refl (c .before .before .put-first .ensures)
+
+pub insert-spec : {M : Type 1} → statement M
+insert-spec =
+    tie.close
+    (tie.spec
+    insert-requires
+    figures-requires
+    put-first-requires
+    same-length
+    same-length-2
+    returns)

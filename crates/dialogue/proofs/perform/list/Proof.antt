@@ -1,0 +1,136 @@
+-- `list` meets its contract. Assumes nothing.
+use Prim.Native.Nat.{ℕ}
+use mathlib.Core.Path.{refl}
+use native.Mathlib.Omega.{arith}
+use borrow.Author.Tests.{eq-eqb, ne-eqb}
+use Rattle.geometry.specs.Values.{boxValue}
+use Rattle.register.specs.Answers.{ListFigures, listGiven}
+use Rattle.register.specs.Performs.{lends}
+use Rattle.lines.specs.Commands.{list}
+use Rattle.dialogue.proofs.Answering.{answered-first, list-room, answered-list}
+use borrow.Author.Needs.{needs}
+use Rattle.dialogue.proofs.perform.list.Statement.{statement}
+use Rattle.dialogue.proofs.perform.list.Tie as tie
+use Rattle.dialogue.proofs.perform.list.Reads as reads
+use Rattle.dialogue.proofs.perform.list.Lts as lts
+use Rattle.lines.proofs.response.put_first.Reads as put-first-reads
+use Rattle.lines.proofs.response.put_marks.Reads as put-marks-reads
+use Rattle.register.proofs.answers.Listing.figures.Reads as figures-reads
+use Rattle.register.proofs.list.list.Reads as list-reads
+
+abbrev given : ℕ → ℕ → ℕ → ℕ → ListFigures
+given n m v w = record { number = n; k = m; visits = v; which = w }
+
+list-requires : tie.Need-list-requires
+list-requires c κs = search needs
+
+figures-requires : tie.Need-figures-requires
+figures-requires c κs = search needs
+
+put-first-requires : tie.Need-put-first-requires
+put-first-requires c κs = search needs
+
+same-length : tie.Need-same-length
+same-length c = search needs
+
+same-length-2 : tie.Need-same-length-2
+same-length-2 c = search needs
+
+same-length-3 : tie.Need-same-length-3
+same-length-3 c = search needs
+
+returns : tie.Need-returns
+returns c =
+    let b = boxValue (c .before .before .before .before .before .before .before .before .before .before .before .before .before .before .before .before .before .before .args .b) in
+    let r = c .before .before .before .before .before .before .figures in
+    let f = given (r .result .number) (r .result .marks) (r .result .visits) (r .result .which) in
+    answered-first (list b) _ _ _ (listGiven f _ _) (rw (← r .ensures) at (c .before .before .before .before .before .before .before .before .before .before .before .list .ensures)) (rw (eq-eqb (f .which) 0 (c .if1 .taken)))
+    (c .before .before .before .before .put-first .ensures)
+
+put-marks-requires : tie.Need-put-marks-requires
+put-marks-requires c κs =
+    let start = c .before .before .before .before .before .before .before .before .before .before .before .before .before .before .before .before .before .before .before .before .before .before in
+    let a = c .before .before .before .before .before .before .before .before .before .before .before .before .before .before .before .before .before .before .before .before .before .before .args in
+    let left = c .before .before .before .before .before .before .before .before .before .before .before .before .before .before .before .list .last in
+    let before = lends (a .table .now) (a .first .now) (a .second .now) in
+    let after = lends (a .table .now) (left .1 .1 .1 .1 .1 .0) (left .1 .1 .1 .1 .1 .1 .0) in
+    let r = c .before .before .before .before .before .before .before .before .before .before .figures in
+    let f = given (r .result .number) (r .result .marks) (r .result .visits) (r .result .which) in
+    let p = rw (← r .ensures) at (c .before .before .before .before .before .before .before .before .before .before .before .before .before .before .before .list .ensures) in
+    omega (arith, start .pre, c .before .before .before .before .before .before .before .before .put-first .ensures .0, list-room (boxValue (start .args .b)) before after f p (c .before .before .before .before .if1 .left))
+
+same-length-4 : tie.Need-same-length-4
+same-length-4 c = search needs
+
+same-length-5 : tie.Need-same-length-5
+same-length-5 c = search needs
+
+same-length-6 : tie.Need-same-length-6
+same-length-6 c = search needs
+
+returns-2 : tie.Need-returns-2
+returns-2 c =
+    let b = boxValue (c .before .before .before .before .before .before .before .before .before .before .before .before .before .before .before .before .before .before .before .before .before .before .before .before .before .args .b) in
+    let a = c .before .before .before .before .before .before .before .before .before .before .before .before .before .before .before .before .before .before .before .before .before .before .before .before .before .args in
+    let left = c .before .before .before .before .before .before .before .before .before .before .before .before .before .before .before .before .before .before .list .last in
+    let before = lends (a .table .now) (a .first .now) (a .second .now) in
+    let after = lends (a .table .now) (left .1 .1 .1 .1 .1 .0) (left .1 .1 .1 .1 .1 .1 .0) in
+    let r = c .before .before .before .before .before .before .before .before .before .before .before .before .before .figures in
+    let f = given (r .result .number) (r .result .marks) (r .result .visits) (r .result .which) in
+    let p = rw (← r .ensures) at (c .before .before .before .before .before .before .before .before .before .before .before .before .before .before .before .before .before .before .list .ensures) in
+    answered-list b before after f p (c .before .before .before .before .before .before .before .if1 .left) (c .before .before .before .before .before .before .before .before .before .before .before .put-first .ensures) (rw (eq-eqb (f .which) 1 (c .before .before .before .before .before .if2 .taken)) (c .before .before .put-marks .ensures))
+
+put-marks-requires-2 : tie.Need-put-marks-requires-2
+put-marks-requires-2 c κs =
+    let start = c .before .before .before .before .before .before .before .before .before .before .before .before .before .before .before .before .before .before .before .before .before .before in
+    let a = c .before .before .before .before .before .before .before .before .before .before .before .before .before .before .before .before .before .before .before .before .before .before .args in
+    let left = c .before .before .before .before .before .before .before .before .before .before .before .before .before .before .before .list .last in
+    let before = lends (a .table .now) (a .first .now) (a .second .now) in
+    let after = lends (a .table .now) (left .1 .1 .1 .1 .1 .0) (left .1 .1 .1 .1 .1 .1 .0) in
+    let r = c .before .before .before .before .before .before .before .before .before .before .figures in
+    let f = given (r .result .number) (r .result .marks) (r .result .visits) (r .result .which) in
+    let p = rw (← r .ensures) at (c .before .before .before .before .before .before .before .before .before .before .before .before .before .before .before .list .ensures) in
+    omega (arith, start .pre, c .before .before .before .before .before .before .before .before .put-first .ensures .0, list-room (boxValue (start .args .b)) before after f p (c .before .before .before .before .if1 .left))
+
+same-length-7 : tie.Need-same-length-7
+same-length-7 c = search needs
+
+same-length-8 : tie.Need-same-length-8
+same-length-8 c = search needs
+
+same-length-9 : tie.Need-same-length-9
+same-length-9 c = search needs
+
+returns-3 : tie.Need-returns-3
+returns-3 c =
+    let b = boxValue (c .before .before .before .before .before .before .before .before .before .before .before .before .before .before .before .before .before .before .before .before .before .before .before .before .before .args .b) in
+    let a = c .before .before .before .before .before .before .before .before .before .before .before .before .before .before .before .before .before .before .before .before .before .before .before .before .before .args in
+    let left = c .before .before .before .before .before .before .before .before .before .before .before .before .before .before .before .before .before .before .list .last in
+    let before = lends (a .table .now) (a .first .now) (a .second .now) in
+    let after = lends (a .table .now) (left .1 .1 .1 .1 .1 .0) (left .1 .1 .1 .1 .1 .1 .0) in
+    let r = c .before .before .before .before .before .before .before .before .before .before .before .before .before .figures in
+    let f = given (r .result .number) (r .result .marks) (r .result .visits) (r .result .which) in
+    let p = rw (← r .ensures) at (c .before .before .before .before .before .before .before .before .before .before .before .before .before .before .before .before .before .before .list .ensures) in
+    answered-list b before after f p (c .before .before .before .before .before .before .before .if1 .left) (c .before .before .before .before .before .before .before .before .before .before .before .put-first .ensures) (rw (ne-eqb (f .which) 1 (c .before .before .before .before .before .if2 .left)) (c .before .before .put-marks2 .ensures))
+
+pub list-spec : {M : Type 1} → statement M
+list-spec =
+    tie.close
+    (tie.spec
+    list-requires
+    figures-requires
+    put-first-requires
+    same-length
+    same-length-2
+    same-length-3
+    returns
+    put-marks-requires
+    same-length-4
+    same-length-5
+    same-length-6
+    returns-2
+    put-marks-requires-2
+    same-length-7
+    same-length-8
+    same-length-9
+    returns-3)

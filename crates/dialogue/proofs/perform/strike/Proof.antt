@@ -1,0 +1,48 @@
+-- `strike` meets its contract. Assumes nothing.
+use mathlib.Core.Path.{refl}
+use Rattle.model.specs.History as history
+use Rattle.geometry.specs.Values.{markValue}
+use Rattle.register.specs.Answers.{updateGiven}
+use Rattle.lines.specs.Commands.{strike}
+use Rattle.dialogue.proofs.Answering.{answered-first}
+use borrow.Author.Needs.{needs}
+use Rattle.dialogue.proofs.perform.strike.Statement.{statement}
+use Rattle.dialogue.proofs.perform.strike.Tie as tie
+use Rattle.dialogue.proofs.perform.strike.Reads as reads
+use Rattle.dialogue.proofs.perform.strike.Lts as lts
+use Rattle.lines.proofs.response.put_first.Reads as put-first-reads
+use Rattle.register.proofs.answers.Update.figures.Reads as figures-reads
+use Rattle.register.proofs.strike.strike.Reads as strike-reads
+
+strike-requires : tie.Need-strike-requires
+strike-requires c κs = search needs
+
+figures-requires : tie.Need-figures-requires
+figures-requires c κs = search needs
+
+put-first-requires : tie.Need-put-first-requires
+put-first-requires c κs = search needs
+
+same-length : tie.Need-same-length
+same-length c = search needs
+
+same-length-2 : tie.Need-same-length-2
+same-length-2 c = search needs
+
+returns : tie.Need-returns
+returns c =
+    let m = markValue (c .before .before .before .before .before .before .before .before .before .before .before .args .m) in
+    let f = c .before .before .before .before .figures in
+    answered-first (strike m) (history.strike m) _ _ (updateGiven (f .result .number) (f .result .live) (f .result .rebuilt)) (rw (← f .ensures) at (c .before .before .before .before .before .before .before .strike .ensures))
+    refl (c .before .before .put-first .ensures)
+
+pub strike-spec : {M : Type 1} → statement M
+strike-spec =
+    tie.close
+    (tie.spec
+    strike-requires
+    figures-requires
+    put-first-requires
+    same-length
+    same-length-2
+    returns)

@@ -1,0 +1,4 @@
+-- What a line does (`Responding`), what a dialogue does byte by byte (`Dialogue`), and what the whole program prints, by the model (`Program`).
+pub mod Responding
+pub mod Dialogue
+pub mod Program

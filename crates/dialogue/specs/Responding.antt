@@ -1,0 +1,52 @@
+-- What a line does: the call that it asks for, on the words that the program holds, and the text printed (document 01, "The planner and the line program").
+-- Assumes nothing.
+use Prim.Native.Nat.{ℕ, _+_, _*_, _≤_}
+use mathlib.Core.Path.{_≡_}
+use mathlib.Core.List.{List}
+use mathlib.Core.Option.{Option, none, some}
+use lib.ListN.{length}
+use Rattle.model.specs.History as history
+use Rattle.model.specs.History.{Call, Answer}
+use Rattle.register.specs.Performs.{Lent, alone, Performs}
+use Rattle.lines.specs.Commands.{Command, insert, strike, count, list}
+use Rattle.lines.specs.Input.{TakenAs}
+use Rattle.lines.specs.Responses.{printed, notALine}
+use Rattle.lines.specs.Writing.{Wrote}
+
+-- the call of a command; a list is lent two lists, of these lengths
+abbrev pub callOf : Command → (first second : ℕ) → Call
+callOf (insert m) f s = history.insert m
+callOf (strike m) f s = history.strike m
+callOf (count b) f s = history.count b
+callOf (list b) f s = history.list b f s
+
+-- what it is lent of the words held
+abbrev pub lentTo : Command → Lent → Lent
+lentTo (insert m) w = alone (w .table)
+lentTo (strike m) w = alone (w .table)
+lentTo (count b) w = alone (w .table)
+lentTo (list b) w = w
+
+-- a command performed on the words held
+pub record Performed (c : Command) (before after : Lent) (a : Answer) : Type 0 where
+  pub performs : Performs (callOf c (length (before .first)) (length (before .second))) (lentTo c before) (lentTo c after) a
+  pub firstLength : length (after .first) ≡ length (before .first)
+  pub secondLength : length (after .second) ≡ length (before .second)
+
+-- what is done for a command, or for none, and the text printed
+pub data Does (before after : Lent) (text : List ℕ) : Option Command → Type 0 where
+  performed : {c : Command} {a : Answer} → Performed c before after a → text ≡ printed c a → Does before after text (some c)
+  turnedAway : after ≡ before → text ≡ notALine → Does before after text none
+
+-- the response to a line
+pub record Responds (line : List ℕ) (before after : Lent) (text : List ℕ) : Type 0 where
+  pub command : Option Command
+  pub taken : TakenAs line command
+  pub does : Does before after text command
+
+-- The answer of a call, and what of it was written into the bytes `out`: at most 24, and 33 for each mark that the first list has room for.
+pub record Answered (c : Command) (call : Call) (before after : Lent) (out : List ℕ) (place : ℕ) (out′ : List ℕ) : Type 0 where
+  pub answer : Answer
+  pub performs : Performs call before after answer
+  pub wrote : Wrote out 0 (printed c answer) place out′
+  pub room : place ≤ 24 + 11 * length (before .first)

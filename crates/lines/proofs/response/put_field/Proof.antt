@@ -1,0 +1,28 @@
+-- `put_field` meets its contract. Assumes nothing.
+use native.Mathlib.Omega.{arith}
+use Rattle.lines.proofs.Digits.{digits-short}
+use Rattle.lines.proofs.Writing.{wrote-then}
+use borrow.Author.Needs.{needs}
+use Rattle.lines.proofs.response.put_field.Statement.{statement}
+use Rattle.lines.proofs.response.put_field.Tie as tie
+use Rattle.lines.proofs.response.put_field.Reads as reads
+use Rattle.lines.proofs.response.put_field.Lts as lts
+use Rattle.lines.proofs.number.put_byte.Reads as put-byte-reads
+use Rattle.lines.proofs.number.put_number.Reads as put-number-reads
+
+put-byte-requires : tie.Need-put-byte-requires
+put-byte-requires c κs = search needs
+
+put-number-requires : tie.Need-put-number-requires
+put-number-requires c κs =
+    let start = c .before .before .before .before .before .before in
+    omega (arith, c .before .before .before .put-byte .ensures .next, digits-short (start .args .n) (omega arith))
+
+same-length : tie.Need-same-length
+same-length c = search needs
+
+returns : tie.Need-returns
+returns c = wrote-then (c .before .before .before .before .before .before .put-byte .ensures) (c .before .before .put-number .ensures)
+
+pub put-field-spec : {M : Type 1} → statement M
+put-field-spec = tie.close (tie.spec put-byte-requires put-number-requires same-length returns)

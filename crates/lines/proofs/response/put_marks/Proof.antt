@@ -1,0 +1,67 @@
+-- `put_marks` meets its contract. The loop's invariant: the lines of the first i marks are written, at most 33 bytes each. Assumes nothing.
+use Prim.Native.Nat.{ℕ, _+_, _-_, _*_, _≤_}
+use mathlib.Core.Path.{_≡_, refl, sym, _∙_}
+use native.Mathlib.Omega.{arith}
+use lib.ListN.{length}
+use borrow.Author.Needs.{needs}
+use Rattle.geometry.specs.Values.{markValue}
+use Rattle.table.specs.Marks.{listMarks}
+use Rattle.lines.specs.Responses.{markLines}
+use Rattle.lines.specs.Writing.{Wrote}
+use Rattle.lines.proofs.Responses.{markLines-more, mark-short}
+use Rattle.lines.proofs.Writing.{wrote-nothing, wrote-then}
+use Rattle.lines.proofs.response.put_marks.Statement.{statement}
+use Rattle.lines.proofs.response.put_marks.Tie as tie
+use Rattle.lines.proofs.response.put_marks.Reads as reads
+use Rattle.lines.proofs.response.put_marks.Lts as lts
+use Rattle.lines.proofs.response.put_mark.Reads as put-mark-reads
+use Rattle.table.proofs.slots.listed.Reads as listed-reads
+
+abbrev Inv-loop : tie.InvT-loop
+Inv-loop out₀ at list k next₀ i₀ out next i =
+    (i ≤ k) × (next ≤ at + 33 * i) × (length out ≡ length out₀) × Wrote out₀ at (markLines (listMarks list 0 i)) next out
+
+abbrev μ-loop : tie.MeasureT-loop
+μ-loop out₀ at list k next₀ i₀ out next i = k - i
+
+loop-holds : tie.Need-loop-holds Inv-loop μ-loop
+loop-holds c = (omega arith, omega arith, refl, wrote-nothing _ _)
+
+listed-requires : tie.Need-listed-requires Inv-loop μ-loop
+listed-requires c κs = search needs
+
+put-mark-requires : tie.Need-put-mark-requires Inv-loop μ-loop
+put-mark-requires c κs = omega (arith, c .before .before .loop-test .taken, c .before .before .before .loop .inv .1)
+
+add-i : tie.Need-add-i Inv-loop μ-loop
+add-i c = search needs
+
+loop-less : tie.Need-loop-less Inv-loop μ-loop
+loop-less c = search needs
+
+loop-again : tie.Need-loop-again Inv-loop μ-loop
+loop-again c =
+    let at = c .before .before .before .before .before .before .loop in
+    let list = c .before .before .before .before .before .before .before .before .before .args .list .now in
+    let more = c .before .before .before .before .before .loop-test .taken in
+    let m = c .before .before .before .before .listed in
+    let done = c .before .before .put-mark in
+    let short = mark-short (markValue (m .result)) (omega (arith, m .ok)) (omega (arith, m .ok)) (omega (arith, m .ok)) in (
+      omega (arith, more),
+      omega (arith, at .inv .1, done .ensures .next, short),
+      done .kept .0 ∙ at .inv .2,
+      rw (← markLines-more list (at .i), ← m .ensures) (wrote-then (at .inv .3) (done .ensures)),
+    )
+
+same-length : tie.Need-same-length Inv-loop μ-loop
+same-length c = search needs
+
+returns : tie.Need-returns Inv-loop μ-loop
+returns c =
+    let at = c .before .loop in
+    let start = c .before .before .before .before in
+    let all : at .i ≡ start .args .k = omega (arith, at .inv .0, c .loop-test .left) in
+    rw (← all) (at .inv .1, at .inv .3)
+
+pub put-marks-spec : {M : Type 1} → statement M
+put-marks-spec = tie.close (tie.spec Inv-loop μ-loop loop-holds listed-requires put-mark-requires add-i loop-less loop-again same-length returns)

@@ -1,0 +1,125 @@
+/* The six calls as values: a call, its answer, and the words that an answer says are left alone. */
+#ifndef CALLS_H
+#define CALLS_H
+
+#include "lent.h"
+#include "markregister.h"
+#include "marks.h"
+
+#include <stdio.h>
+
+enum kind { OPEN, INSERT, STRIKE, COUNT, LIST, EXAMINE, KINDS };
+
+struct call {
+    enum kind kind;
+    uint32_t capacity;    /* of an opening */
+    struct mark mark;     /* of an insertion or a strike */
+    struct box box;       /* of a count or a list */
+};
+
+/* A figure that a call does not give is 0. */
+struct answer {
+    uint32_t number, live, rebuilt, count, visits, which;
+};
+
+/* What a call is lent. The lists are longer runs, of which a call is lent so many words. */
+struct loan {
+    struct lent table, lists[2];
+    size_t lent[2];
+};
+
+static inline struct call opening(uint32_t capacity) { return (struct call){.kind = OPEN, .capacity = capacity}; }
+
+static inline struct call inserting(struct mark m) { return (struct call){.kind = INSERT, .mark = m}; }
+
+static inline struct call striking(struct mark m) { return (struct call){.kind = STRIKE, .mark = m}; }
+
+static inline struct call counting(struct box b) { return (struct call){.kind = COUNT, .box = b}; }
+
+static inline struct call listing(struct box b) { return (struct call){.kind = LIST, .box = b}; }
+
+static inline struct call examining(void) { return (struct call){.kind = EXAMINE}; }
+
+/* Makes a call. Every figure of it starts as a number that no sound table gives, so that one which is not written is seen. */
+static inline struct answer ask(struct call c, const struct loan *l) {
+    enum { UNWRITTEN = 0x7EEDFACE };
+    uint32_t *t = l->table.word, *first = l->lists[0].word, *second = l->lists[1].word;
+    size_t n = l->table.words;
+    struct answer r = {0};
+    struct mark m = c.mark;
+    struct box b = c.box;
+    if (c.kind == COUNT || c.kind == LIST) r.count = r.visits = UNWRITTEN; else r.live = UNWRITTEN;
+    if (c.kind == INSERT || c.kind == STRIKE) r.rebuilt = UNWRITTEN;
+    if (c.kind == LIST) r.which = UNWRITTEN;
+    switch (c.kind) {
+    case OPEN: r.number = register_open(t, n, c.capacity, &r.live); break;
+    case INSERT: r.number = register_insert(t, n, m.x, m.y, m.tag, &r.live, &r.rebuilt); break;
+    case STRIKE: r.number = register_strike(t, n, m.x, m.y, m.tag, &r.live, &r.rebuilt); break;
+    case COUNT: r.number = register_count(t, n, b.x1, b.x2, b.y1, b.y2, &r.count, &r.visits); break;
+    case LIST:
+        r.number = register_list(t, n, b.x1, b.x2, b.y1, b.y2, first, l->lent[0], second, l->lent[1], &r.count, &r.visits, &r.which);
+        break;
+    default: r.number = register_check(t, n, &r.live); break;
+    }
+    return r;
+}
+
+/* For whoever looks into a difference. */
+static inline void show_call(const char *what, struct call c, struct answer r) {
+    static const char *const kinds[KINDS] = {"open", "insert", "strike", "count", "list", "check"};
+    fprintf(stderr, "%s: %s, capacity %u, mark %u,%u,%u, box %u,%u,%u,%u: ", what, kinds[c.kind], c.capacity, c.mark.x, c.mark.y, c.mark.tag,
+            c.box.x1, c.box.x2, c.box.y1, c.box.y2);
+    fprintf(stderr, "number %u, live %u, rebuilt %u, count %u, visits %u, which %u\n", r.number, r.live, r.rebuilt, r.count, r.visits, r.which);
+}
+
+/* Document 01, "Where each call may stop": whether one of a call's rows has the number. */
+static inline int has_number(enum kind kind, uint32_t number) {
+    enum { OK = 1 << REGISTER_OK, TABLE = OK | 1 << REGISTER_NOT_A_TABLE | 1 << REGISTER_UNSOUND };
+    static const unsigned rows[KINDS] = {
+        [OPEN] = OK | 1 << REGISTER_CAPACITY | 1 << REGISTER_SHORT_TABLE,
+        [INSERT] = TABLE | 1 << REGISTER_MARK_OUTSIDE | 1 << REGISTER_PRESENT | 1 << REGISTER_FULL,
+        [STRIKE] = TABLE | 1 << REGISTER_MARK_OUTSIDE | 1 << REGISTER_ABSENT,
+        [COUNT] = TABLE | 1 << REGISTER_BOX_CROSSED,
+        [LIST] = TABLE | 1 << REGISTER_BOX_CROSSED | 1 << REGISTER_SHORT_LIST,
+        [EXAMINE] = TABLE,
+    };
+    return number <= REGISTER_SHORT_LIST && (rows[kind] >> number & 1) == 1;
+}
+
+static inline int same_answer(struct answer a, struct answer b) { return memcmp(&a, &b, sizeof a) == 0; }
+
+/* Document 01: a refusal gives 0 for every figure, save the marks with number 10. */
+static inline int gives_no_figure(struct answer r) {
+    struct answer none = {.number = r.number, .count = r.number == REGISTER_SHORT_LIST ? r.count : 0};
+    return same_answer(r, none);
+}
+
+/* Document 01, "Where each call may stop": the words of the table that a call with this number leaves as they were. */
+static inline int table_left_alone(struct call c, uint32_t number, struct lent t) {
+    int updates = c.kind == INSERT || c.kind == STRIKE;
+    if (updates && number == REGISTER_UNSOUND) return t.word[0] == 0 && unchanged_from(t, words_for(t.kept[1]));
+    if (number != REGISTER_OK || c.kind == COUNT || c.kind == LIST || c.kind == EXAMINE) return unchanged_from(t, 0);
+    return unchanged_from(t, words_for(c.kind == OPEN ? c.capacity : t.kept[1]));
+}
+
+/* The same of the lists: all, and after an accepted list the words past the marks in both. */
+static inline int lists_left_alone(struct call c, struct answer r, const struct loan *l) {
+    size_t from = c.kind == LIST && r.number == REGISTER_OK ? 3 * (size_t)r.count : 0;
+    return unchanged_from(l->lists[0], from) && unchanged_from(l->lists[1], from);
+}
+
+static inline int all_guarded(const struct loan *l) { return guarded(l->table) && guarded(l->lists[0]) && guarded(l->lists[1]); }
+
+/* A table and two lists of so many words. */
+static inline struct loan borrow(size_t words, size_t list_words) {
+    struct loan l = {lend(words), {lend(list_words), lend(list_words)}, {list_words, list_words}};
+    return l;
+}
+
+static inline void pay_back(struct loan l) {
+    take_back(l.table);
+    take_back(l.lists[0]);
+    take_back(l.lists[1]);
+}
+
+#endif

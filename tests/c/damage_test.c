@@ -1,0 +1,206 @@
+/* All six calls on tables of random runs with some words changed, and on words that were never a table, between guard words: what document 01 says of any
+   words, and of a table that is sound all the same. */
+#include "check.h"
+#include "damage.h"
+#include "sound.h"
+
+#include <time.h>
+
+enum { MOST_SECONDS = 2 };    /* of one call; it is processor time, so that others on the machine do not count */
+
+static unsigned long numbers[KINDS][REGISTER_SHORT_LIST + 1], calls, sound_ones;
+static clock_t slowest;
+
+/* The number of a call that rests on no tree, where it has one: 0 says that the tree decides. */
+static uint32_t settled_number(struct call c, const struct loan *l) {
+    int updates = c.kind == INSERT || c.kind == STRIKE, searches = c.kind == COUNT || c.kind == LIST;
+    if (c.kind == OPEN && (c.capacity < 1 || c.capacity > LARGEST)) return REGISTER_CAPACITY;
+    if (c.kind == OPEN) return l->table.words < words_for(c.capacity) ? REGISTER_SHORT_TABLE : REGISTER_OK;
+    if (is_no_table(l->table.kept, l->table.words)) return REGISTER_NOT_A_TABLE;
+    if (updates && is_outside(c.mark)) return REGISTER_MARK_OUTSIDE;
+    if (searches && is_crossed(c.box)) return REGISTER_BOX_CROSSED;
+    return REGISTER_OK;
+}
+
+/* What document 01 says of a number that rests on the words of an unsound table. */
+static int may_give(struct call c, struct answer r, const struct loan *l) {
+    const uint32_t *was = l->table.kept;
+    size_t needed = 3 * (size_t)r.count;
+    int full = was[2] == was[1], longer = needed <= l->lent[0] && needed <= l->lent[1];
+    if (r.number == REGISTER_FULL) return full;
+    if (r.number == REGISTER_SHORT_LIST) return !longer;
+    if (r.number != REGISTER_OK) return 1;
+    if (c.kind == INSERT) return !full;
+    if (c.kind == LIST) return longer && (r.which == 1 || r.which == 2);
+    return 1;
+}
+
+/* A sound table never gives 4, its marks decide what a call gives, and an update leaves a sound one. */
+static int serves(struct call c, struct answer r, const struct loan *l) {
+    const uint32_t *was = l->table.kept;
+    struct mark *marks = allocate(was[2] * sizeof *marks);
+    uint32_t n = live_marks(was, marks), same = 0, k;
+    for (uint32_t i = 0; i < n; i++) same += (uint32_t)same_mark(marks[i], c.mark);
+    k = scan(marks, n, c.box, marks);
+    free(marks);
+    int right = r.number != REGISTER_UNSOUND;
+    if (c.kind == INSERT) right = right && r.number == (same > 0 ? REGISTER_PRESENT : n == was[1] ? REGISTER_FULL : REGISTER_OK);
+    if (c.kind == STRIKE) right = right && r.number == (same > 0 ? REGISTER_OK : REGISTER_ABSENT);
+    if (c.kind == COUNT || c.kind == LIST) right = right && r.count == k;
+    if ((c.kind == INSERT || c.kind == STRIKE) && r.number == REGISTER_OK)
+        right = right && r.live == (c.kind == INSERT ? n + 1 : n - 1) && verdict(l->table.word, l->table.words) == REGISTER_OK;
+    return right;
+}
+
+static void try_call(struct call c, const struct loan *l) {
+    uint32_t found = verdict(l->table.word, l->table.words);
+    for (int i = 0; i < 2; i++) keep(l->lists[i]);
+    keep(l->table);
+    clock_t began = clock();
+    struct answer r = ask(c, l);
+    clock_t took = clock() - began;
+    uint32_t settled = settled_number(c, l);
+    if (took > slowest) slowest = took;
+    COMPARE(took <= MOST_SECONDS * CLOCKS_PER_SEC);
+    COMPARE(has_number(c.kind, r.number));
+    if (settled != REGISTER_OK || c.kind == OPEN) COMPARE(r.number == settled);
+    else COMPARE(r.number != REGISTER_NOT_A_TABLE && r.number != REGISTER_MARK_OUTSIDE && r.number != REGISTER_BOX_CROSSED && may_give(c, r, l));
+    if (r.number != REGISTER_OK) COMPARE(gives_no_figure(r));
+    COMPARE(table_left_alone(c, r.number, l->table) && lists_left_alone(c, r, l) && all_guarded(l));
+    if (c.kind == EXAMINE) COMPARE(r.number == found && r.live == (found == REGISTER_OK ? l->table.word[2] : 0));
+    if (c.kind == OPEN && r.number == REGISTER_OK) COMPARE(r.live == 0 && verdict(l->table.word, l->table.words) == REGISTER_OK);
+    if (found == REGISTER_OK && settled == REGISTER_OK && c.kind != OPEN) COMPARE(serves(c, r, l));
+    numbers[c.kind][r.number % (REGISTER_SHORT_LIST + 1)]++;
+    calls++;
+    sound_ones += found == REGISTER_OK;
+}
+
+/* A mark of some slot, or any. */
+static struct mark any_mark(const uint32_t *t, uint32_t capacity, uint32_t span) {
+    const uint32_t *slot = t + HEADER + 16 * (size_t)draw(capacity);
+    struct mark m = {draw(span), draw(span), draw(3)};
+    if (!one_in(4)) m = (struct mark){slot[0], slot[1], slot[2]};
+    if (one_in(40)) m.x = LARGEST_COORDINATE + draw(2);
+    return m;
+}
+
+static struct call any_call(const uint32_t *t, uint32_t capacity, uint32_t span) {
+    struct mark m = any_mark(t, capacity, span);
+    struct box b = {draw(span), draw(2 * span), draw(span), draw(2 * span)};
+    if (one_in(3)) b.x1 = 0, b.x2 = UINT32_MAX;
+    if (one_in(3)) b.y1 = 0, b.y2 = UINT32_MAX;
+    switch (draw(16)) {
+    case 0: return opening(one_in(4) ? draw(70000) : 1 + draw(capacity));
+    case 1: case 2: case 3: case 4: return inserting(m);
+    case 5: case 6: case 7: case 8: return striking(m);
+    case 9: case 10: return counting(b);
+    case 11: case 12: case 13: return listing(b);
+    default: return examining();
+    }
+}
+
+/* Some calls in a row: what an update makes of damaged words is met by the next. */
+static void try_calls(struct loan *l, uint32_t capacity, uint32_t span) {
+    for (uint32_t i = 1 + draw(4); i > 0; i--) {
+        for (int j = 0; j < 2; j++) l->lent[j] = one_in(4) ? draw((uint32_t)l->lists[j].words) : l->lists[j].words;
+        try_call(any_call(l->table.word, capacity, span), l);
+    }
+}
+
+static void damaged_tables(uint32_t capacity, uint32_t span, unsigned tables, unsigned rounds) {
+    size_t own = words_for(capacity);
+    struct loan made = borrow(own, 0), l = borrow(own + draw(9), 3 * (size_t)capacity + 3);
+    for (unsigned i = 0; i < tables; i++) {
+        random_table(&made, capacity, span, 1 + draw(6 * capacity));
+        for (unsigned j = 0; j < rounds; j++) {
+            memcpy(l.table.word, made.table.word, own * sizeof *l.table.word);
+            for (uint32_t k = 1 + draw(4); k > 0; k--) damage(l.table.word, l.table.words, capacity);
+            try_calls(&l, capacity, span);
+        }
+    }
+    pay_back(made);
+    pay_back(l);
+}
+
+static void no_tables(uint32_t capacity, unsigned rounds) {
+    size_t own = words_for(capacity);
+    for (size_t words = own - 2; words <= own + 1; words++) {
+        struct loan l = borrow(words, 3 * (size_t)capacity + 3);
+        for (unsigned i = 0; i < rounds; i++) {
+            garbage(l.table.word, words, capacity);
+            try_calls(&l, capacity, 2 * capacity);
+        }
+        pay_back(l);
+    }
+}
+
+/* Runs of any short length, the empty one too. */
+static void short_runs(void) {
+    for (size_t words = 0; words < 100; words++) {
+        struct loan l = borrow(words, 9);
+        for (unsigned i = 0; i < 60; i++) {
+            for (size_t j = 0; j < words; j++) l.table.word[j] = draw(3);
+            struct mark m = {draw(3), draw(3), draw(3)};
+            struct box b = {0, draw(3), 0, draw(3)};
+            struct call some[KINDS] = {opening(draw(3)), inserting(m), striking(m), counting(b), listing(b), examining()};
+            try_call(some[draw(KINDS)], &l);
+        }
+        pay_back(l);
+    }
+}
+
+/* An arm to a node, and beside it another to the same, in whose cells a box of 3 to 5 finds no end. */
+static void put_two_ways(uint32_t *record, uint32_t node) {
+    static const uint32_t weights[] = {2, 8};
+    for (int i = 0; i < 2; i++) {
+        uint32_t arm[] = {node, weights[i], 0, 9};
+        memcpy(record + 4 * i, arm, sizeof arm);
+    }
+}
+
+/* Nodes in a chain, in the main tree and in its auxiliary trees, each with two ways to the next: 2^38 ways lead to the leaf at its end. */
+static void doubled_ways(void) {
+    enum { CAPACITY = 60, DEPTH = 38, LAST = 50 };
+    struct loan l = borrow(words_for(CAPACITY), 3 * CAPACITY);
+    struct mark m = {5, 6, 7}, other = {5, 6, 8};
+    struct box b = {3, 5, 3, 5};
+    struct call some[] = {inserting(other), striking(m), counting(b), listing(b), examining()};
+    for (size_t i = 0; i < sizeof some / sizeof *some; i++) {
+        uint32_t *t = l.table.word;
+        memset(t, 0, l.table.words * sizeof *t);
+        ask(opening(CAPACITY), &l);
+        t[2] = 10, t[3] = 1, t[4] = 10, t[6] = 9;
+        for (uint32_t s = 0; s < DEPTH; s++) {
+            uint32_t next = s + 1 < DEPTH ? 2 * (s + 1) + 1 : 2 * LAST, auxiliary[] = {1, 10, 0, 9};
+            put_two_ways(t + HEADER + 16 * s + 3, next);
+            memcpy(t + HEADER + 16 * s + 11, auxiliary, sizeof auxiliary);
+            for (uint32_t d = 0; d < levels_for(CAPACITY); d++) put_two_ways(t + HEADER + (32 + 16 * d) * CAPACITY + 8 * s, next);
+        }
+        memcpy(t + HEADER + 16 * LAST, &m, sizeof m);
+        try_call(some[i], &l);
+    }
+    pay_back(l);
+}
+
+/* Every number that a damaged table can give came up. */
+static void check_numbers(void) {
+    for (int kind = 0; kind < KINDS; kind++)
+        for (unsigned n = 0; n <= REGISTER_SHORT_LIST; n++) CHECK(has_number(kind, n) == (numbers[kind][n] > 50));
+    CHECK(calls > 300000 && sound_ones > 20000);
+}
+
+int main(void) {
+    checks_limit(600);
+    for (uint32_t capacity = 1; capacity <= 24; capacity++) damaged_tables(capacity, 1 + draw(2 * capacity), 60, 120);
+    damaged_tables(60, 4, 60, 200);    /* rows of equal x and y */
+    damaged_tables(60, 1000000, 60, 200);
+    for (uint32_t capacity = 100; capacity <= 300; capacity += 50) damaged_tables(capacity, capacity, 10, 100);
+    damaged_tables(4000, 2000, 3, 30);
+    for (uint32_t capacity = 1; capacity <= 20; capacity++) no_tables(capacity, 300);
+    short_runs();
+    checks_limit(60);
+    doubled_ways();
+    fprintf(stderr, "%lu calls, %lu on sound tables; the slowest took %.3f s\n", calls, sound_ones, (double)slowest / CLOCKS_PER_SEC);
+    check_numbers();
+    return checks_report();
+}
