@@ -12,11 +12,11 @@ use borrow.Author.Tests.{eq-eqb, ne-eqb}
 use Rattle.model.specs.History.{Call, openFor, State, Answer, answer, next}
 use Rattle.model.specs.Sizes.{capacityOutside, D, riseD, W}
 use Rattle.model.specs.Refusals.{openTable}
-use Rattle.model.proofs.Logic.{clash}
 use Rattle.model.proofs.TwoFold.{open-agrees}
-use Rattle.model.proofs.History.{Right, next-right}
 use Rattle.twofold.specs.Sound.{capacityOf, Holding}
-use Rattle.register.specs.Performs.{Lent, lends, alone, own, stateOf, early, Later, opens, unsound, Performs}
+use Rattle.register.proofs.Stands.{Stands, call-follows}
+use Rattle.register.proofs.History.{open-later}
+use Rattle.register.specs.Performs.{Lent, lends, alone, own, early, Performs}
 use Rattle.lines.specs.Commands.{Command, insert, strike, count, list}
 use Rattle.lines.specs.Input.{TakenAs, lastLine, linesAfter, linesOf, longestLine, Gathered, within, beyond}
 use Rattle.lines.specs.Responses.{printed, notALine}
@@ -26,29 +26,6 @@ use Rattle.lines.proofs.Gathering.{taken-reads, gathered-none, gathered-more, g
 use Rattle.dialogue.specs.Responding.{callOf, lentTo, Performed, Does, performed, turnedAway, Responds}
 use Rattle.dialogue.specs.Dialogue.{Dialogue, dialogue, Fed, ends, goesOn, Ended, rest, noRest, FedAll, none as noByte, then, Runs}
 use Rattle.dialogue.specs.Program.{Prints, nothing, command, other, marks, tableWords, listWords, opened, Begun}
-
--- the table stands for a state of the history
-record Stands (xs : List ℕ) (s : State) : Type 0 where
-  right : Right s
-  capacity : capacityOf xs ≡ s .capacity
-  holds : Holding (own xs) (s .tree)
-
-same-state : (xs : List ℕ) (s : State) → Stands xs s → stateOf xs (s .tree) ≡ s
-same-state xs s h = λ i. record { capacity = h .capacity i; plain = h .right .agrees .list i; tree = s .tree }
-
--- a call answers by the state, and leaves a table that stands for the next
-call-follows : (c : Call) (before after : Lent) (a : Answer) (s : State) → Performs c before after a → Stands (before .table) s
-    → (a ≡ answer c s) × Stands (after .table) (next c s)
-call-follows c before after a s p h =
-    let e = same-state (before .table) s h in
-    let f = p .follows (s .tree) (h .holds) in (
-      f .answers ∙ ap (answer c) e,
-      record {
-        right = next-right c s (h .right);
-        capacity = f .capacity ∙ ap (λ t. next c t .capacity) e;
-        holds = rw e at (f .holds);
-      },
-    )
 
 lent-table : (c : Command) (w : Lent) → lentTo c w .table ≡ w .table
 lent-table (insert m) w = refl
@@ -67,7 +44,7 @@ module _ (n : ℕ) where
       → (a ≡ answer (callOf c n n) s) × Held n after (next (callOf c n n) s)
   command-follows c before after a s p h =
       let asked = rw (h .first, h .second) at (p .performs) in
-      let f = call-follows (callOf c n n) (lentTo c before) (lentTo c after) a s asked (rw (lent-table c before) (h .stands)) in
+      let f = call-follows {s = s} asked (rw (lent-table c before) (h .stands)) in
       (f .0, record { stands = rw (lent-table c after) at (f .1); first = p .firstLength ∙ h .first; second = p .secondLength ∙ h .second })
 
   -- the response to a line, and what is printed for the lines after it
@@ -117,16 +94,12 @@ module _ (n : ℕ) where
       (fed-prints (begun ++ b ∷ []) end left t (gathered-more (s .line) begun (s .len) b (u .len) (u .line) took g) (rw kept h) fed e)
 
 -- the open of 60 marks in 15,424 words is accepted
-later-opens : {xs : List ℕ} {c words : ℕ} {a : Answer} → Later xs (openFor c words) a → a .number ≡ 0
-later-opens opens = refl
-later-opens (unsound o h) = clash refl o
-
 open-early : (xs : List ℕ) → early (openFor marks tableWords) xs ≡ 0
 unfolding early openTable capacityOutside W D riseD
 open-early xs = refl
 
 open-accepted : (words : ℕ) (before after : Lent) (a : Answer) → words ≡ tableWords → Performs (openFor marks words) before after a → a .number ≡ 0
-open-accepted words before after a e p = later-opens (p .later (rw e (open-early (before .table))))
+open-accepted words before after a e p = ap (λ a. a .number) (open-later (p .later (rw e (open-early (before .table)))))
 
 -- and leaves the table as the program begins with it, whatever its words were
 pub open-begins : (xs ys : List ℕ) (a : Answer) → length xs ≡ tableWords → Performs (openFor marks (length xs)) (alone xs) (alone ys) a

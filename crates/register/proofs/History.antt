@@ -10,27 +10,14 @@ use lib.ListN.{length, take}
 use borrow.Author.Tests.{eqb-true, eqb-false}
 use Rattle.model.specs.Sizes.{W, capacityOutside}
 use Rattle.model.specs.Refusals.{openTable}
-use Rattle.model.specs.Tree.{marksOf}
 use Rattle.model.proofs.Logic.{by-cases, clash}
 use Rattle.model.specs.History.{Call, openFor, State, Answer, updated, answer, next}
-use Rattle.model.proofs.History.{Right, open-right, next-right, StepRight, Along, run-right}
+use Rattle.model.proofs.History.{open-right, StepRight, Along, run-right}
 use Rattle.table.specs.Marks.{markWords}
-use Rattle.twofold.specs.Sound.{capacityOf, Holding}
 use Rattle.register.specs.Answers.{inList}
-use Rattle.register.specs.Performs.{Lent, early, own, Later, opens, unsound, stateOf, Performs}
+use Rattle.register.specs.Performs.{Lent, early, Later, opens, unsound, Performs}
+use Rattle.register.proofs.Stands.{Stands, call-follows}
 use Rattle.register.specs.Run.{Made, Calls, none, then, Run, AsPlain, Beside, nothing, andThen}
-
--- a table stands for a state: its words hold the state's tree, whose marks are the plain list
-record Stands (xs : List ℕ) (s : State) : Type 0 where
-  capacity : capacityOf xs ≡ s .capacity
-  holds : Holding (own xs) (s .tree)
-  right : Right s
-
--- the state of a sound table is the state that it stands for
-stands-state : {xs : List ℕ} {s : State} → Stands xs s → stateOf xs (s .tree) ≡ s
-stands-state {s = s} h =
-    ap (λ c. record { capacity = c; plain = marksOf (s .tree); tree = s .tree }) (h .capacity)
-    ∙ ap (λ l. record { capacity = s .capacity; plain = l; tree = s .tree }) (h .right .agrees .list)
 
 -- what a call gave and what is right of the history's step
 as-plain : (s : State) (m : Made) → Performs (m .call) (m .before) (m .after) (m .answer) → m .answer ≡ answer (m .call) s → StepRight (m .call) s → AsPlain s m
@@ -43,20 +30,6 @@ as-plain s m p e r = record {
   visits = rw e (r .visits);
 }
 
--- each call takes a table that stands for a state to one that stands for the next state
-step : {s : State} {m : Made} → Performs (m .call) (m .before) (m .after) (m .answer) → Stands (m .before .table) s
-    → (m .answer ≡ answer (m .call) s) × Stands (m .after .table) (next (m .call) s)
-step {s = s} {m = m} p h =
-    let k = p .follows (s .tree) (h .holds) in
-    let e = stands-state h in (
-      k .answers ∙ ap (answer (m .call)) e,
-      record {
-        capacity = k .capacity ∙ ap (λ s. next (m .call) s .capacity) e;
-        holds = subst (λ s. Holding (own (m .after .table)) (next (m .call) s .tree)) e (k .holds);
-        right = next-right (m .call) s (h .right);
-      },
-    )
-
 -- what the calls of a run were asked
 abbrev asked : List Made → List Call
 asked [] = []
@@ -66,7 +39,7 @@ asked (m ∷ ms) = m .call ∷ asked ms
 calls : {xs : List ℕ} {ms : List Made} → Calls xs ms → (s : State) → Stands xs s → Along StepRight (asked ms) s → Beside s ms
 calls none s h r = nothing
 calls (then {m = m} p rest) s h r =
-    let k = step p h in
+    let k = call-follows p h in
     andThen (as-plain s m p (k .0) (r .0)) (calls rest (next (m .call) s) (k .1) (r .1))
 
 -- an accepted open gives what the history's step gives, whatever state stood before
@@ -77,7 +50,7 @@ open-accepted c words s e =
     (λ t. absurd (omega (arith, (rw t at e))))
     (λ f. by-cases (ltb words (W c)) (λ t. absurd (omega (arith, (rw (f, t) at e)))) (λ g. rw (f, g)))
 
-open-later : {xs : List ℕ} {c words : ℕ} {a : Answer} → Later xs (openFor c words) a → a ≡ updated 0 0
+pub open-later : {xs : List ℕ} {c words : ℕ} {a : Answer} → Later xs (openFor c words) a → a ≡ updated 0 0
 open-later opens = refl
 open-later (unsound e wrong) = clash refl e
 

@@ -6,4 +6,5 @@ pub mod Opening
 pub mod Updating
 pub mod Reading
 pub mod Listing
+pub mod Stands
 pub mod History
