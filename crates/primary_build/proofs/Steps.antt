@@ -1,5 +1,5 @@
 -- How many nodes the collection comes to, on any words: for a tree that is said to weigh w at most 2w - 1, since each node gives its children parts of its
--- weight, none of them 0. Counted of the mirror; the code makes one call for each. Assumes nothing.
+-- weight, none of them 0. The count follows the mirror test by test, and the code makes one call for each: both are seen by reading. Assumes nothing.
 use Prim.Native.Nat.{ℕ, zero, suc, _+_, _-_, _*_, _/_, _%_, _≤_}
 use mathlib.Core.List.{List}
 use native.Mathlib.Omega.{arith}

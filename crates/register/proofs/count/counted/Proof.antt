@@ -2,7 +2,7 @@ use mathlib.Core.Path.{sym, ap, _∙_}
 use native.Mathlib.Omega.{arith}
 use Rattle.geometry.specs.Values.{boxOutcome}
 use Rattle.register.proofs.Own.{own-fits}
-use Rattle.register.proofs.Steps.{count-not-table, count-crossed, count-own}
+use Rattle.register.proofs.Branches.{count-not-table, count-crossed, count-own}
 use borrow.Author.Needs.{needs}
 use Rattle.register.proofs.count.counted.Statement.{statement}
 use Rattle.register.proofs.count.counted.Tie as tie

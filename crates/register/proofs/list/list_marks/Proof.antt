@@ -1,4 +1,4 @@
-use Rattle.register.proofs.Steps.{list-marks}
+use Rattle.register.proofs.Branches.{list-marks}
 use borrow.Author.Needs.{needs}
 use Rattle.register.proofs.list.list_marks.Statement.{statement}
 use Rattle.register.proofs.list.list_marks.Tie as tie

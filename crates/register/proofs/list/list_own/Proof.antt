@@ -1,4 +1,4 @@
-use Rattle.register.proofs.Steps.{list-lost, list-many, list-short, list-lists}
+use Rattle.register.proofs.Branches.{list-lost, list-many, list-short, list-lists}
 use mathlib.Core.Path.{refl}
 use mathlib.Core.Logic.{inl, inr}
 use borrow.Author.Needs.{needs}

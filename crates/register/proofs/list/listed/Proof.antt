@@ -1,4 +1,4 @@
-use Rattle.register.proofs.Steps.{list-not-table, list-crossed, list-own}
+use Rattle.register.proofs.Branches.{list-not-table, list-crossed, list-own}
 use Rattle.register.proofs.Own.{own-fits}
 use Rattle.geometry.specs.Values.{boxOutcome}
 use native.Mathlib.Omega.{arith}

@@ -1,5 +1,5 @@
 use Rattle.register.proofs.Own.{open-fits}
-use Rattle.register.proofs.Steps.{open-refused, open-own}
+use Rattle.register.proofs.Branches.{open-refused, open-own}
 use Rattle.sizes.specs.Sizes.{openingOutcome}
 use mathlib.Core.Path.{sym, ap, _∙_}
 use borrow.Author.Needs.{needs}

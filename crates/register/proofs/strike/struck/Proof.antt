@@ -3,7 +3,7 @@ use mathlib.Core.Path.{sym, ap, _∙_}
 use native.Mathlib.Omega.{arith}
 use Rattle.geometry.specs.Values.{markOutcome}
 use Rattle.register.proofs.Own.{own-fits}
-use Rattle.register.proofs.Steps.{update-not-table, update-outside, update-own}
+use Rattle.register.proofs.Branches.{update-not-table, update-outside, update-own}
 use borrow.Author.Needs.{needs}
 use Rattle.register.proofs.strike.struck.Statement.{statement}
 use Rattle.register.proofs.strike.struck.Tie as tie
