@@ -1,5 +1,6 @@
 // Marks and boxes on a sheet (document 01, "Marks, boxes, tables"), by value.
 ghost use mathlib.Core.Path.{_≡_};
+ghost use mathlib.Core.Bool.{not};
 ghost use Rattle.model.specs.Axis.{cellInside, cellClear};
 ghost use Rattle.model.specs.Sheet.{belowX, belowY, same, holds, markOutside, alongX, alongY};
 ghost use Rattle.model.specs.Refusals.{enterMark, enterBox};
@@ -164,6 +165,32 @@ impl Box {
             return false;
         }
         m.y <= self.y2
+    }
+
+    // A coordinate lies before the box's side along x.
+    pub fn before_x(self, v: u32) -> bool
+        ensures { λ r. ⌜ r ≡ not (alongX .fromLow (boxValue self) v) ⌝ }
+    {
+        v < self.x1
+    }
+
+    // A coordinate lies past that side.
+    pub fn past_x(self, v: u32) -> bool
+        ensures { λ r. ⌜ r ≡ not (alongX .toHigh (boxValue self) v) ⌝ }
+    {
+        self.x2 < v
+    }
+
+    pub fn before_y(self, v: u32) -> bool
+        ensures { λ r. ⌜ r ≡ not (alongY .fromLow (boxValue self) v) ⌝ }
+    {
+        v < self.y1
+    }
+
+    pub fn past_y(self, v: u32) -> bool
+        ensures { λ r. ⌜ r ≡ not (alongY .toHigh (boxValue self) v) ⌝ }
+    {
+        self.y2 < v
     }
 
     // A cell from least to greatest lies inside the box's side along x.

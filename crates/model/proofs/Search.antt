@@ -33,11 +33,11 @@ module _ {M B I : Type 0} (S : Space M B) (A : Axis M B) (O : AxisLaws S A) wher
       (all-map (λ q h. (h .0 .0, O .rises q (greatest r) (all-greatest r (h .1)))) (all-both (cell-spans l (sorted-left (marks l) (marks r) s)) x))
       (all-map (λ q h. (O .rises (least l) q (h .1), h .0 .1)) (all-both (cell-spans r (sorted-right (marks l) (marks r) s)) (all-least l x)))
 
-  cell-ordered : (t : Tree M I) → Sorted A (marks t) → A .at (least t) ≤ A .at (greatest t)
+  pub cell-ordered : (t : Tree M I) → Sorted A (marks t) → A .at (least t) ≤ A .at (greatest t)
   cell-ordered t s = all-least t (cell-spans t s) .1
 
   -- two children's cells meet at most in one coordinate
-  cells-follow : (l r : Tree M I) → Sorted A (marks l ++ marks r) → A .at (greatest l) ≤ A .at (least r)
+  pub cells-follow : (l r : Tree M I) → Sorted A (marks l ++ marks r) → A .at (greatest l) ≤ A .at (least r)
   cells-follow l r s = O .rises (greatest l) (least r) (all-least r (all-greatest l (sorted-across (marks l) (marks r) s)))
 
   module _ (b : B) where

@@ -4,3 +4,4 @@ pub mod Counting
 pub mod Held
 pub mod Spots
 pub mod Levels
+pub mod Searching

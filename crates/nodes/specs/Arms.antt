@@ -1,7 +1,8 @@
 -- Numbers of nodes, arms and records, of main and auxiliary trees alike (docs/LAYOUT.md, "Arms and records"). Assumes nothing.
 use Prim.Native.Nat.{ℕ, _+_, _*_, _%_}
+use mathlib.Core.Bool.{Bool}
 use mathlib.Core.List.{List, [], _∷_}
-use lib.Dec.{leb}
+use lib.Dec.{leb, ltb}
 use lib.ListN.{length, getD}
 use lib.Seq.{sets}
 use Rattle.model.specs.Lists.{if_then_else_}
@@ -52,6 +53,9 @@ armAt xs at = if leb (at + 4) (length xs) then arm (getD xs at 0) (getD xs (at +
 
 unfoldable pub putArm : List ℕ → ℕ → Arm → List ℕ
 putArm xs at a = if leb (at + 4) (length xs) then sets xs at (a .node ∷ a .weight ∷ a .least ∷ a .greatest ∷ []) else xs
+
+unfoldable pub recordMissing : List ℕ → ℕ → Bool
+recordMissing xs at = ltb (length xs) (at + 8)
 
 unfoldable pub recordAt : List ℕ → ℕ → Record
 recordAt xs at =

@@ -12,6 +12,7 @@ ghost use Rattle.nodes.specs.Arms.{
   grownArm,
   armAt,
   putArm,
+  recordMissing,
   recordAt,
   putRecord,
 };
@@ -150,6 +151,13 @@ impl PrimaryArm {
 }
 
 impl PrimaryRecord {
+    // Whether the words lack the record of that name.
+    pub fn is_missing(t: &[u32], name: u32) -> bool
+        ensures { λ r. ⌜ r ≡ recordMissing (now (t .entry)) (mainPlace name) ⌝ }
+    {
+        t.len() < 67 + 16 * (name as usize) + 8
+    }
+
     // The record of the inner node of that name, in its slot.
     pub fn at(t: &[u32], name: u32) -> PrimaryRecord
         ensures { λ r. ⌜ primaryRecord r ≡ recordAt (now (t .entry)) (mainPlace name) ⌝ }

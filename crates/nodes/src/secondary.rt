@@ -3,7 +3,7 @@ ghost use mathlib.Core.Path.{_≡_};
 ghost use Prim.Native.Nat.{_/_, _%_, _<_, _^_};
 ghost use lib.Dec.{eqb};
 ghost use Rattle.table.specs.Layout.{recordPlace};
-ghost use Rattle.nodes.specs.Arms.{leafNumber, innerNumber, noArm, leafArm, overArm, grownArm, armAt, putArm, recordAt, putRecord};
+ghost use Rattle.nodes.specs.Arms.{leafNumber, innerNumber, noArm, leafArm, overArm, grownArm, armAt, putArm, recordMissing, recordAt, putRecord};
 ghost use Rattle.nodes.specs.Values.{secondaryArm, secondaryRecord};
 use table::weights;
 
@@ -138,6 +138,13 @@ impl SecondaryArm {
 }
 
 impl SecondaryRecord {
+    // Whether the words lack the record of that name.
+    pub fn is_missing(t: &[u32], base: u32, name: u32) -> bool
+        ensures { λ r. ⌜ r ≡ recordMissing (now (t .entry)) (recordPlace base name) ⌝ }
+    {
+        t.len() < (base as usize) + 8 * (name as usize) + 8
+    }
+
     // The record of the inner node of that name, in the level whose records begin at base.
     pub fn at(t: &[u32], base: u32, name: u32) -> SecondaryRecord
         ensures { λ r. ⌜ secondaryRecord r ≡ recordAt (now (t .entry)) (recordPlace base name) ⌝ }

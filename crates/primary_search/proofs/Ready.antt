@@ -28,8 +28,6 @@ use Rattle.twofold.specs.TwoFold.{HoldsAuxiliary, TwoFold}
 use Rattle.secondary_search.proofs.Counting.{Settled}
 use Rattle.secondary_search.proofs.Listing.{Marked}
 
--- what holds of each slot that stands in a list holds of all of it
-
 module _ (f : ℕ → Mark) (C : ℕ) (xs : List ℕ) where
   -- the auxiliary tree of the main node of that name at depth d, over the slots of l
   pub record ReadyAuxiliary (d name : ℕ) (l : List ℕ) (o : SlotAuxiliary) : Type 0 where
@@ -39,6 +37,7 @@ module _ (f : ℕ → Mark) (C : ℕ) (xs : List ℕ) where
     pub records : Holds alongY f (recordPlace (levelPlace C d)) xs tree
     pub marked : Marked f xs tree
     pub bag : SameBag (marks tree) l
+    pub sorted : Sorted (slotAxis f alongY) (marks tree)
     pub carries : CarriesBag tree
     pub shallow : depth tree ≤ 38
 
@@ -69,6 +68,7 @@ module _ (f : ℕ → Mark) (C : ℕ) (xs : List ℕ) where
           records = h .held .records;
           marked = all-times (marks (h .tree)) (h .held .marked);
           bag = subst (λ t. SameBag (marks t) l) e (k .bag);
+          sorted = subst (λ t. Sorted (slotAxis f alongY) (marks t)) e (k .sorted);
           carries = subst CarriesBag e (k .carries);
           shallow = held-shallow (h .held) (subst Balanced e (k .balanced)) small;
         }

@@ -1,70 +1,55 @@
--- The mirror of the count. Assumes nothing.
-use Prim.Native.Nat.{ℕ, zero, suc, _-_, _/_, _%_}
-use mathlib.Core.Path.{_≡_, refl}
-use mathlib.Core.Bool.{Bool, false, not}
+-- The mirrors of the count in a table: those of either kind of tree (Rattle.nodes.specs.Count), along x, where the arrival at a tree inside the side hands
+-- over to its auxiliary tree. Assumes nothing.
+use Prim.Native.Nat.{ℕ, _/_, _%_}
 use mathlib.Core.List.{List}
-use native.Mathlib.Omega.{arith}
-use lib.Dec.{leb, eqb}
+use lib.Dec.{eqb}
 use lib.ListN.{getD}
 use Rattle.model.specs.Lists.{if_then_else_}
-use Rattle.model.specs.Axis.{cellInside, cellClear}
 use Rattle.model.specs.Sheet.{Box, alongX, holds}
 use Rattle.table.specs.Layout.{capacityPlace, mainPlace, auxiliaryPlace, rootPlace, deepest}
 use Rattle.table.specs.Marks.{slotMark}
-use Rattle.nodes.specs.Arms.{Arm, Record, armAt, recordAt}
-use Rattle.table.specs.Tally.{visited, lost, mostVisits}
+use Rattle.table.specs.Tally.{visited}
+use Rattle.nodes.specs.Arms.{Arm, armAt}
+use Rattle.nodes.specs.Count.{Kind, lowFrom, highFrom, acrossLeft, acrossRight, across, countFrom}
 use Rattle.twofold.specs.Levels.{topLevel, deeper}
 use Rattle.secondary_search.specs.Count.{count♯}
 
-unfoldable pub mainOpens♯ : Box → Arm → Bool
-mainOpens♯ b a = if cellInside alongX b (a .least) (a .greatest) then false else not (cellClear alongX b (a .least) (a .greatest))
-
-unfoldable pub handed♯ : List ℕ → ℕ → Box → ℕ → ℕ → ℕ
-handed♯ xs base b n tally =
+-- the arrival at a node of that number, inside the side
+unfoldable pub handed♯ : List ℕ → Box → ℕ → ℕ → ℕ → ℕ
+handed♯ xs b base n tally =
     if eqb (n % 2) 0 then (if holds b (slotMark xs (n / 2)) then visited tally 1 else visited tally 0)
-    else count♯ xs base b (armAt xs (auxiliaryPlace (n / 2))) (visited tally 0)
+    else count♯ xs b base (armAt xs (auxiliaryPlace (n / 2))) (visited tally 0)
 
-unfoldable pub mainSeen♯ : List ℕ → ℕ → Box → Arm → ℕ → ℕ
-mainSeen♯ xs base b a tally = if cellInside alongX b (a .least) (a .greatest) then handed♯ xs base b (a .node) tally else visited tally 0
+-- the main tree has its records in the slots, and the auxiliary trees of each depth their own level
+abbrev pub mainKind : List ℕ → ℕ → Box → Kind
+mainKind xs capacity b = record {
+  axis = alongX;
+  place = λ base name. mainPlace name;
+  deeper = λ base. deeper base capacity;
+  take = λ base a tally. handed♯ xs b base (a .node) tally;
+}
 
--- from where the children's level begins, a node's number and a tally
-abbrev pub MainSearch : Type 0
-MainSearch = ℕ → ℕ → ℕ → ℕ
+module _ (xs : List ℕ) (capacity : ℕ) (b : Box) where
+  abbrev pub mainLow♯ : ℕ → ℕ → ℕ → ℕ
+  mainLow♯ base n tally = lowFrom (mainKind xs capacity b) b xs deepest base n tally
 
-unfoldable pub mainChildren : MainSearch → Box → Record → ℕ → ℕ → ℕ
-mainChildren rec b p base both =
-    if mainOpens♯ b (p .left)
-    then (if mainOpens♯ b (p .right) then rec base (p .right .node) (rec base (p .left .node) both) else rec base (p .left .node) both)
-    else (if mainOpens♯ b (p .right) then rec base (p .right .node) both else both)
+  abbrev pub mainHigh♯ : ℕ → ℕ → ℕ → ℕ
+  mainHigh♯ base n tally = highFrom (mainKind xs capacity b) b xs deepest base n tally
 
-unfoldable pub mainRecord : MainSearch → List ℕ → ℕ → Box → Record → ℕ → ℕ → ℕ
-mainRecord rec xs capacity b p base tally =
-    mainChildren rec b p (deeper base capacity) (mainSeen♯ xs base b (p .right) (mainSeen♯ xs base b (p .left) tally))
+  abbrev pub mainLowEnd♯ : ℕ → Arm → ℕ → ℕ
+  mainLowEnd♯ base a tally = acrossLeft (mainKind xs capacity b) b xs base a tally
 
-unfoldable pub mainNode : MainSearch → List ℕ → ℕ → Box → MainSearch
-mainNode rec xs capacity b base n tally =
-    if leb mostVisits (tally % 4294967296) then lost else mainRecord rec xs capacity b (recordAt xs (mainPlace (n / 2))) base tally
+  abbrev pub mainHighEnd♯ : ℕ → Arm → ℕ → ℕ
+  mainHighEnd♯ base a tally = acrossRight (mainKind xs capacity b) b xs base a tally
 
-unfoldable pub mainSearch♯ : ℕ → List ℕ → ℕ → Box → MainSearch
-mainSearch♯ zero xs capacity b base n tally = lost
-mainSearch♯ (suc f) xs capacity b base n tally = mainNode (mainSearch♯ f xs capacity b) xs capacity b base n tally
+  abbrev pub mainAcross♯ : ℕ → ℕ → ℕ → ℕ
+  mainAcross♯ base n tally = across (mainKind xs capacity b) b xs base n tally
 
-pub mainSearch♯-zero : (f : ℕ) → f ≡ 0 → (xs : List ℕ) (capacity : ℕ) (b : Box) (base n tally : ℕ) → mainSearch♯ f xs capacity b base n tally ≡ lost
-unfolding mainSearch♯
-mainSearch♯-zero f e xs capacity b base n tally = rw e
+  unfoldable pub mainSearch♯ : ℕ → Arm → ℕ
+  mainSearch♯ base a = countFrom (mainKind xs capacity b) b xs deepest base a 0
 
-pub mainSearch♯-suc : (f : ℕ) → (f ≡ 0 → ⊥) → (xs : List ℕ) (capacity : ℕ) (b : Box) (base n tally : ℕ)
-    → mainSearch♯ f xs capacity b base n tally ≡ mainNode (mainSearch♯ (f - 1) xs capacity b) xs capacity b base n tally
-unfolding mainSearch♯
-mainSearch♯-suc zero h xs capacity b base n tally = absurd (h refl)
-mainSearch♯-suc (suc f) h xs capacity b base n tally = let e : suc f - 1 ≡ f = omega arith in rw e
-
-unfoldable pub countFrom : List ℕ → ℕ → Box → Arm → ℕ → ℕ
-countFrom xs capacity b a top =
-    if mainOpens♯ b a then mainSearch♯ deepest xs capacity b (deeper top capacity) (a .node) (mainSeen♯ xs top b a 0) else mainSeen♯ xs top b a 0
-
-unfoldable pub countRoot : List ℕ → ℕ → Box → Arm → ℕ
-countRoot xs capacity b a = if eqb (a .weight) 0 then 0 else countFrom xs capacity b a (topLevel capacity)
+  unfoldable pub countRoot : Arm → ℕ
+  countRoot a = if eqb (a .weight) 0 then 0 else mainSearch♯ (topLevel capacity) a
 
 unfoldable pub mainCount♯ : List ℕ → Box → ℕ
 mainCount♯ xs b = countRoot xs (getD xs capacityPlace 0) b (armAt xs rootPlace)

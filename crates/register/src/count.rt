@@ -17,7 +17,7 @@ use table::tally;
 fn count_own(t: &[u32], b: Box) -> Count
     ensures { λ r. ⌜ countAnswer r ≡ countOwn♯ (boxValue b) (now (t .entry)) ⌝ }
 {
-    let tally = primary_search::count::count(t, b);
+    let tally = primary_search::count::count(t, b.x1, b.x2, b.y1, b.y2);
     let visits = tally::visits(tally);
     if limits::MOST < visits {
         return Count::Unsound;

@@ -30,7 +30,7 @@ fn list_marks(t: &[u32], b: Box, first: &mut [u32], second: &mut [u32], k: u32) 
 fn list_own(t: &[u32], b: Box, first: &mut [u32], second: &mut [u32]) -> Listing
     ensures { λ r. ⌜ ListsOwn (boxValue b) (now (t .entry)) (now (first .entry)) (now (second .entry)) (now (first .exit)) (now (second .exit)) (listFigures r) ⌝ }
 {
-    let tally = primary_search::count::count(t, b);
+    let tally = primary_search::count::count(t, b.x1, b.x2, b.y1, b.y2);
     if limits::MOST < tally::visits(tally) {
         return Listing::Unsound;
     }

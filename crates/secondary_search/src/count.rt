@@ -1,8 +1,9 @@
-// Counting: the planner's inner loop.
+// Counting: the planner's inner loop. In an ordered tree the box's side begins in one child of a node and ends in one: the search goes down to the node
+// that it begins and ends in both children of, and from there beneath each of them with one end to look for.
 ghost use mathlib.Core.Path.{_≡_};
 ghost use Rattle.geometry.specs.Values.{boxValue};
 ghost use Rattle.nodes.specs.Values.{secondaryArm};
-ghost use Rattle.secondary_search.specs.Count.{opens♯, seen♯, search♯, count♯};
+ghost use Rattle.secondary_search.specs.Count.{low♯, high♯, lowEnd♯, highEnd♯, across♯, count♯};
 use geometry::Box;
 use nodes::secondary::Secondary;
 use nodes::secondary::SecondaryArm;
@@ -10,36 +11,16 @@ use nodes::secondary::SecondaryRecord;
 use table::limits;
 use table::tally;
 
-// Whether a cell is neither inside the box's side nor clear of it.
-fn opens(b: Box, a: SecondaryArm) -> bool
-    ensures { λ r. ⌜ r ≡ opens♯ (boxValue b) (secondaryArm a) ⌝ }
-{
-    if b.inside_y(a.least, a.greatest) {
-        return false;
-    }
-    !b.clear_y(a.least, a.greatest)
-}
-
-// The arrival at a tree: its weight if its cell is inside.
-fn seen(b: Box, a: SecondaryArm, tally: u64) -> u64
-    ensures { λ r. ⌜ r ≡ seen♯ (boxValue b) (secondaryArm a) tally ⌝ }
-{
-    if b.inside_y(a.least, a.greatest) {
-        return tally::visit(tally, a.weight);
-    }
-    tally::visit(tally, 0)
-}
-
-// Searches beneath a node that is to be opened. It goes on to the child that is to be opened; where both are, a call takes the left one.
-fn search(t: &[u32], base: u32, b: Box, start: Secondary, from: u64, fuel: u32) -> u64
-    ensures { λ r. ⌜ r ≡ search♯ fuel (now (t .entry)) base (boxValue b) (start .0) from ⌝ }
+// Beneath a node in which the side begins, and which ends on it.
+fn from_low(t: &[u32], base: u32, b: Box, start: Secondary, from: u64) -> u64
+    ensures { λ r. ⌜ r ≡ low♯ (now (t .entry)) (boxValue b) base (start .0) from ⌝ }
 {
     let mut node = start.0;
     let mut tally = from;
-    let mut left = fuel;
+    let mut left = limits::DEEPEST;
     while 0 < left {
         left -= 1;
-        if limits::MOST <= tally::visits(tally) {
+        if SecondaryRecord::is_missing(t, base, node / 2) {
             return tally::LOST;
         }
         let p = SecondaryRecord::at(t, base, node / 2);
@@ -47,35 +28,120 @@ fn search(t: &[u32], base: u32, b: Box, start: Secondary, from: u64, fuel: u32) 
         let r = p.right;
         let x = l.node;
         let y = r.node;
-        let both = seen(b, r, seen(b, l, tally));
-        if opens(b, l) {
-            if opens(b, r) {
-                tally = search(t, base, b, x, both, left);
+        if b.before_y(l.greatest) {
+            tally = tally::visit(tally, 0);
+            if b.before_y(r.least) {
+                tally = tally::visit(tally, 0);
                 node = y.0;
             } else {
-                tally = both;
-                node = x.0;
+                return tally::visit(tally, r.weight);
             }
         } else {
-            if opens(b, r) {
-                tally = both;
-                node = y.0;
-            } else {
-                return both;
-            }
+            tally = tally::visit(tally::visit(tally, r.weight), 0);
+            node = x.0;
         }
     }
     tally::LOST
 }
 
-// The marks of a tree on the box's side, and the visits, onto a tally.
-pub fn count(t: &[u32], base: u32, b: Box, root: SecondaryArm, tally: u64) -> u64
-    ensures { λ r. ⌜ r ≡ count♯ (now (t .entry)) base (boxValue b) (secondaryArm root) tally ⌝ }
+// Beneath a node that begins on the side, and in which it ends.
+fn to_high(t: &[u32], base: u32, b: Box, start: Secondary, from: u64) -> u64
+    ensures { λ r. ⌜ r ≡ high♯ (now (t .entry)) (boxValue b) base (start .0) from ⌝ }
 {
-    let here = seen(b, root, tally);
-    if opens(b, root) {
-        let node = root.node;
-        return search(t, base, b, node, here, limits::DEEPEST);
+    let mut node = start.0;
+    let mut tally = from;
+    let mut left = limits::DEEPEST;
+    while 0 < left {
+        left -= 1;
+        if SecondaryRecord::is_missing(t, base, node / 2) {
+            return tally::LOST;
+        }
+        let p = SecondaryRecord::at(t, base, node / 2);
+        let l = p.left;
+        let r = p.right;
+        let x = l.node;
+        let y = r.node;
+        if b.past_y(r.least) {
+            tally = tally::visit(tally, 0);
+            if b.past_y(l.greatest) {
+                tally = tally::visit(tally, 0);
+                node = x.0;
+            } else {
+                return tally::visit(tally, l.weight);
+            }
+        } else {
+            tally = tally::visit(tally::visit(tally, l.weight), 0);
+            node = y.0;
+        }
     }
-    here
+    tally::LOST
+}
+
+// The arrival at a tree that ends on the side, and at one that begins on it.
+fn low_end(t: &[u32], base: u32, b: Box, a: SecondaryArm, tally: u64) -> u64
+    ensures { λ r. ⌜ r ≡ lowEnd♯ (now (t .entry)) (boxValue b) base (secondaryArm a) tally ⌝ }
+{
+    if b.before_y(a.least) {
+        let n = a.node;
+        return from_low(t, base, b, n, tally::visit(tally, 0));
+    }
+    tally::visit(tally, a.weight)
+}
+
+fn high_end(t: &[u32], base: u32, b: Box, a: SecondaryArm, tally: u64) -> u64
+    ensures { λ r. ⌜ r ≡ highEnd♯ (now (t .entry)) (boxValue b) base (secondaryArm a) tally ⌝ }
+{
+    if b.past_y(a.greatest) {
+        let n = a.node;
+        return to_high(t, base, b, n, tally::visit(tally, 0));
+    }
+    tally::visit(tally, a.weight)
+}
+
+// Beneath a node whose left child ends on the side and whose right child begins on it.
+fn across(t: &[u32], base: u32, b: Box, node: Secondary, tally: u64) -> u64
+    ensures { λ r. ⌜ r ≡ across♯ (now (t .entry)) (boxValue b) base (node .0) tally ⌝ }
+{
+    let p = SecondaryRecord::at(t, base, node.slot());
+    let l = p.left;
+    let r = p.right;
+    high_end(t, base, b, r, low_end(t, base, b, l, tally))
+}
+
+// The marks of a tree on the box's side, and the visits, onto a tally.
+pub fn count(t: &[u32], base: u32, b: Box, root: SecondaryArm, from: u64) -> u64
+    ensures { λ r. ⌜ r ≡ count♯ (now (t .entry)) (boxValue b) base (secondaryArm root) from ⌝ }
+{
+    let mut a = root;
+    let mut tally = from;
+    let mut left = limits::DEEPEST;
+    while 0 < left {
+        left -= 1;
+        if b.inside_y(a.least, a.greatest) {
+            return tally::visit(tally, a.weight);
+        }
+        tally = tally::visit(tally, 0);
+        if b.clear_y(a.least, a.greatest) {
+            return tally;
+        }
+        let n = a.node;
+        if SecondaryRecord::is_missing(t, base, n.0 / 2) {
+            return tally::LOST;
+        }
+        let p = SecondaryRecord::at(t, base, n.0 / 2);
+        let l = p.left;
+        let r = p.right;
+        if b.before_y(l.greatest) {
+            tally = tally::visit(tally, 0);
+            a = r;
+        } else {
+            if b.past_y(r.least) {
+                tally = tally::visit(tally, 0);
+                a = l;
+            } else {
+                return across(t, base, b, n, tally);
+            }
+        }
+    }
+    tally::LOST
 }

@@ -1,61 +1,74 @@
+use Prim.Native.Nat.{ℕ, _-_}
+use mathlib.Core.Path.{_≡_, subst}
+use mathlib.Core.List.{List}
+use native.Mathlib.Omega.{arith}
+use lib.ListN.{length, take}
+use lib.Seq.{take-all}
+use Rattle.model.specs.Sheet.{Box}
+use Rattle.nodes.specs.Arms.{Arm}
+use Rattle.primary_search.specs.Count.{mainSearch♯, countRoot, mainCount♯}
+use borrow.Author.Tests.{eq-eqb, ne-eqb}
 use borrow.Author.Needs.{needs}
 use Rattle.primary_search.proofs.count.count.Statement.{statement}
-use Rattle.primary_search.specs.Count.{countFrom, countRoot, mainCount♯}
-use Rattle.twofold.specs.Levels.{deeper}
-use borrow.Author.Tests.{eq-eqb, ne-eqb}
 use Rattle.primary_search.proofs.count.count.Tie as tie
 use Rattle.primary_search.proofs.count.count.Reads as reads
 use Rattle.primary_search.proofs.count.count.Lts as lts
-use Rattle.primary_search.proofs.count.opens.Reads as opens-reads
-use Rattle.primary_search.proofs.count.search.Reads as search-reads
-use Rattle.primary_search.proofs.count.seen.Reads as seen-reads
-use Rattle.table.proofs.header.capacity.Reads as capacity-reads
 use Rattle.nodes.proofs.primary.PrimaryArm.at.Reads as at-reads
-use Rattle.twofold.proofs.levels.deeper.Reads as deeper-reads
+use Rattle.primary_search.proofs.count.search.Reads as search-reads
+use Rattle.table.proofs.header.capacity.Reads as capacity-reads
 use Rattle.twofold.proofs.levels.top.Reads as top-reads
 
--- src/count.rt:106:9
+-- words lent whole are the same words
+lent-whole : (xs : List ℕ) (capacity : ℕ) (b : Box) (base : ℕ) (a : Arm) (r : ℕ) → r ≡ mainSearch♯ (take (length xs - 0) xs) capacity b base a
+    → r ≡ mainSearch♯ xs capacity b base a
+lent-whole xs capacity b base a r e = subst (λ ys. r ≡ mainSearch♯ ys capacity b base a) (take-all (length xs - 0) xs (omega arith)) e
+
+-- src/count.rt:182:9
 at-requires : tie.Need-at-requires
 at-requires c κs = search needs
 
--- src/count.rt:108:9
+-- src/count.rt:184:9
 returns : tie.Need-returns
-unfolding mainCount♯ countRoot countFrom
-returns c = rw (← c .before .before .at .ensures, eq-eqb _ _ (c .if1 .taken))
+unfolding mainCount♯ countRoot
+returns c = rw (
+  ← c .before .before .at .ensures,
+  eq-eqb _ _ (c .if1 .taken),
+)
 
--- src/count.rt:110:9
+-- src/count.rt:186:9
 capacity-requires : tie.Need-capacity-requires
 capacity-requires c κs = search needs
 
--- src/count.rt:111:9
+-- src/count.rt:188:12
+sub-search : tie.Need-sub-search
+sub-search c = search needs
+
+-- src/count.rt:188:12
+part-search-start : tie.Need-part-search-start
+part-search-start c = search needs
+
+-- src/count.rt:188:12
+part-search-end : tie.Need-part-search-end
+part-search-end c = search needs
+
+-- src/count.rt:188:28
 top-requires : tie.Need-top-requires
 top-requires c κs = search needs
 
--- src/count.rt:112:9
-seen-requires : tie.Need-seen-requires
-seen-requires c κs = search needs
-
--- src/count.rt:113:8
-opens-requires : tie.Need-opens-requires
-opens-requires c κs = search needs
-
--- src/count.rt:115:26
-deeper-requires : tie.Need-deeper-requires
-deeper-requires c κs = search needs
-
--- src/count.rt:115:9
+-- src/count.rt:188:5
 search-requires : tie.Need-search-requires
 search-requires c κs = search needs
 
--- src/count.rt:115:9
+-- src/count.rt:179:1
 returns-2 : tie.Need-returns-2
-unfolding mainCount♯ countRoot countFrom
-returns-2 c = rw (← c .before .before .before .before .before .before .before .before .before .before .at .ensures, ne-eqb _ _ (c .before .before .before .before .before .before .before .before .if1 .left), ← c .before .before .before .before .before .before .before .capacity .ensures, ← c .before .before .before .before .before .before .top .ensures, ← c .before .before .before .before .before .seen .ensures, ← c .before .before .before .before .opens .ensures, c .before .before .before .if2 .taken, ← c .before .deeper .ensures, ← c .search .ensures)
-
--- src/count.rt:103:1
-returns-3 : tie.Need-returns-3
-unfolding mainCount♯ countRoot countFrom
-returns-3 c = rw (← c .before .before .before .before .before .before .before .at .ensures, ne-eqb _ _ (c .before .before .before .before .before .if1 .left), ← c .before .before .before .before .capacity .ensures, ← c .before .before .before .top .ensures, ← c .before .before .seen .ensures, ← c .before .opens .ensures, c .if2 .left)
+unfolding mainCount♯ countRoot
+returns-2 c =
+    rw (
+      ← c .before .before .before .before .before .before .at .ensures,
+      ne-eqb _ _ (c .before .before .before .before .if1 .left),
+      ← c .before .before .before .capacity .ensures,
+      ← c .before .top .ensures,
+    ) (lent-whole _ _ _ _ _ _ (c .search .ensures))
 
 pub count-spec : {M : Type 1} → statement M
 count-spec =
@@ -64,10 +77,9 @@ count-spec =
     at-requires
     returns
     capacity-requires
+    sub-search
+    part-search-start
+    part-search-end
     top-requires
-    seen-requires
-    opens-requires
-    deeper-requires
     search-requires
-    returns-2
-    returns-3)
+    returns-2)

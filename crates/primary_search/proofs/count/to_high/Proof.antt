@@ -1,0 +1,189 @@
+use Prim.Native.Nat.{ℕ, _<_, _≤_}
+use mathlib.Core.Path.{_≡_}
+use native.Mathlib.Omega.{arith}
+use borrow.Author.Needs.{needs}
+use Rattle.geometry.specs.Values.{boxValue}
+use Rattle.table.specs.Layout.{deepest}
+use Rattle.nodes.specs.Count.{highRecord, highNode, highFrom, highFrom-zero, highFrom-suc}
+use Rattle.primary_search.specs.Count.{mainKind}
+use Rattle.primary_search.proofs.count.to_high.Statement.{statement}
+use Rattle.primary_search.proofs.count.to_high.Tie as tie
+use Rattle.primary_search.proofs.count.to_high.Reads as reads
+use Rattle.primary_search.proofs.count.to_high.Lts as lts
+use Rattle.geometry.proofs.Box.past_x.Reads as past-x-reads
+use Rattle.nodes.proofs.primary.PrimaryRecord.at.Reads as at-reads
+use Rattle.nodes.proofs.primary.PrimaryRecord.is_missing.Reads as is-missing-reads
+use Rattle.primary_search.proofs.count.handed.Reads as handed-reads
+use Rattle.table.proofs.tally.visit.Reads as visit-reads
+use Rattle.twofold.proofs.levels.deeper.Reads as deeper-reads
+
+positive : (n : ℕ) → 0 < n → n ≡ 0 → ⊥
+positive n h e = omega arith
+
+nothing : (n : ℕ) → n ≤ 0 → n ≡ 0
+nothing n h = omega arith
+
+abbrev Inv-loop : tie.InvT-loop
+Inv-loop t level capacity b from base₀ node₀ tally₀ left₀ base node tally left =
+    (left ≤ deepest) × (highFrom (mainKind t capacity (boxValue b)) (boxValue b) t left base node tally ≡ highFrom (mainKind t capacity (boxValue b)) (boxValue b) t deepest level node₀ from)
+
+abbrev μ-loop : tie.MeasureT-loop
+μ-loop t level capacity b from base₀ node₀ tally₀ left₀ base node tally left = left
+
+-- src/count.rt:77:5
+loop-holds : tie.Need-loop-holds Inv-loop μ-loop
+loop-holds c = search needs
+
+-- src/count.rt:78:9
+sub-left : tie.Need-sub-left Inv-loop μ-loop
+sub-left c = search needs
+
+-- src/count.rt:79:12
+is-missing-requires : tie.Need-is-missing-requires Inv-loop μ-loop
+is-missing-requires c κs = search needs
+
+-- src/count.rt:80:13
+returns : tie.Need-returns Inv-loop μ-loop
+unfolding highNode highRecord
+returns c = rw (
+  ← c .before .before .before .loop .inv .1,
+  highFrom-suc _ _ _ _ (positive _ (c .before .before .loop-test .taken)),
+  ← c .before .is-missing .ensures,
+  c .if1 .taken,
+)
+
+-- src/count.rt:82:13
+at-requires : tie.Need-at-requires Inv-loop μ-loop
+at-requires c κs = search needs
+
+-- src/count.rt:87:9
+deeper-requires : tie.Need-deeper-requires Inv-loop μ-loop
+deeper-requires c κs = search needs
+
+-- src/count.rt:88:12
+past-x-requires : tie.Need-past-x-requires Inv-loop μ-loop
+past-x-requires c κs = search needs
+
+-- src/count.rt:89:13
+visit-requires : tie.Need-visit-requires Inv-loop μ-loop
+visit-requires c κs = search needs
+
+-- src/count.rt:90:16
+past-x-requires-2 : tie.Need-past-x-requires-2 Inv-loop μ-loop
+past-x-requires-2 c κs = search needs
+
+-- src/count.rt:91:17
+visit-requires-2 : tie.Need-visit-requires-2 Inv-loop μ-loop
+visit-requires-2 c κs = search needs
+
+-- src/count.rt:77:5
+loop-less : tie.Need-loop-less Inv-loop μ-loop
+loop-less c = search needs
+
+-- src/count.rt:77:5
+loop-again : tie.Need-loop-again Inv-loop μ-loop
+unfolding highNode highRecord
+loop-again c = (
+  omega (arith, c .before .before .before .before .before .before .before .before .before .before .before .before .before .before .before .loop .inv .0),
+  rw (
+    ← c .before .before .before .before .before .before .before .before .before .before .before .before .before .before .before .loop .inv .1,
+    highFrom-suc _ _ _ _ (positive _ (c .before .before .before .before .before .before .before .before .before .before .before .before .before .before .loop-test .taken)),
+    ← c .before .before .before .before .before .before .before .before .before .before .before .before .before .is-missing .ensures,
+    c .before .before .before .before .before .before .before .before .before .before .before .before .if1 .left,
+    ← c .before .before .before .before .before .before .before .before .before .before .before .at .ensures,
+    ← c .before .before .before .before .before .before .deeper .ensures,
+    ← c .before .before .before .before .before .past-x .ensures,
+    c .before .before .before .before .if2 .taken,
+    ← c .before .before .before .visit .ensures,
+    ← c .before .before .past-x2 .ensures,
+    c .before .if3 .taken,
+    ← c .visit2 .ensures,
+  ),
+)
+
+-- src/count.rt:94:17
+handed-requires : tie.Need-handed-requires Inv-loop μ-loop
+handed-requires c κs = search needs
+
+-- src/count.rt:94:17
+returns-2 : tie.Need-returns-2 Inv-loop μ-loop
+unfolding highNode highRecord
+returns-2 c = rw (
+  ← c .before .before .before .before .before .before .before .before .before .before .before .before .before .before .before .loop .inv .1,
+  highFrom-suc _ _ _ _ (positive _ (c .before .before .before .before .before .before .before .before .before .before .before .before .before .before .loop-test .taken)),
+  ← c .before .before .before .before .before .before .before .before .before .before .before .before .before .is-missing .ensures,
+  c .before .before .before .before .before .before .before .before .before .before .before .before .if1 .left,
+  ← c .before .before .before .before .before .before .before .before .before .before .before .at .ensures,
+  ← c .before .before .before .before .before .before .deeper .ensures,
+  ← c .before .before .before .before .before .past-x .ensures,
+  c .before .before .before .before .if2 .taken,
+  ← c .before .before .before .visit .ensures,
+  ← c .before .before .past-x2 .ensures,
+  c .before .if3 .left,
+  ← c .handed .ensures,
+)
+
+-- src/count.rt:97:34
+handed-requires-2 : tie.Need-handed-requires-2 Inv-loop μ-loop
+handed-requires-2 c κs = search needs
+
+-- src/count.rt:97:13
+visit-requires-3 : tie.Need-visit-requires-3 Inv-loop μ-loop
+visit-requires-3 c κs = search needs
+
+-- src/count.rt:77:5
+loop-less-2 : tie.Need-loop-less-2 Inv-loop μ-loop
+loop-less-2 c = search needs
+
+-- src/count.rt:77:5
+loop-again-2 : tie.Need-loop-again-2 Inv-loop μ-loop
+unfolding highNode highRecord
+loop-again-2 c = (
+  omega (arith, c .before .before .before .before .before .before .before .before .before .before .before .before .before .loop .inv .0),
+  rw (
+    ← c .before .before .before .before .before .before .before .before .before .before .before .before .before .loop .inv .1,
+    highFrom-suc _ _ _ _ (positive _ (c .before .before .before .before .before .before .before .before .before .before .before .before .loop-test .taken)),
+    ← c .before .before .before .before .before .before .before .before .before .before .before .is-missing .ensures,
+    c .before .before .before .before .before .before .before .before .before .before .if1 .left,
+    ← c .before .before .before .before .before .before .before .before .before .at .ensures,
+    ← c .before .before .before .before .deeper .ensures,
+    ← c .before .before .before .past-x .ensures,
+    c .before .before .if2 .left,
+    ← c .before .handed2 .ensures,
+    ← c .visit3 .ensures,
+  ),
+)
+
+-- src/count.rt:70:1
+returns-3 : tie.Need-returns-3 Inv-loop μ-loop
+unfolding highNode highRecord
+returns-3 c = rw (
+  ← c .before .loop .inv .1,
+  highFrom-zero _ _ _ _ (nothing _ (c .loop-test .left)),
+)
+
+pub to-high-spec : {M : Type 1} → statement M
+to-high-spec =
+    tie.close
+    (tie.spec
+    Inv-loop
+    μ-loop
+    loop-holds
+    sub-left
+    is-missing-requires
+    returns
+    at-requires
+    deeper-requires
+    past-x-requires
+    visit-requires
+    past-x-requires-2
+    visit-requires-2
+    loop-less
+    loop-again
+    handed-requires
+    returns-2
+    handed-requires-2
+    visit-requires-3
+    loop-less-2
+    loop-again-2
+    returns-3)

@@ -1,0 +1,179 @@
+use Prim.Native.Nat.{ℕ, _<_, _≤_}
+use mathlib.Core.Path.{_≡_}
+use native.Mathlib.Omega.{arith}
+use borrow.Author.Needs.{needs}
+use Rattle.geometry.specs.Values.{boxValue}
+use Rattle.table.specs.Layout.{deepest}
+use Rattle.nodes.specs.Count.{lowRecord, lowNode, lowFrom, lowFrom-zero, lowFrom-suc}
+use Rattle.secondary_search.specs.Count.{auxiliaryKind}
+use Rattle.secondary_search.proofs.count.from_low.Statement.{statement}
+use Rattle.secondary_search.proofs.count.from_low.Tie as tie
+use Rattle.secondary_search.proofs.count.from_low.Reads as reads
+use Rattle.secondary_search.proofs.count.from_low.Lts as lts
+use Rattle.geometry.proofs.Box.before_y.Reads as before-y-reads
+use Rattle.nodes.proofs.secondary.SecondaryRecord.at.Reads as at-reads
+use Rattle.nodes.proofs.secondary.SecondaryRecord.is_missing.Reads as is-missing-reads
+use Rattle.table.proofs.tally.visit.Reads as visit-reads
+
+positive : (n : ℕ) → 0 < n → n ≡ 0 → ⊥
+positive n h e = omega arith
+
+nothing : (n : ℕ) → n ≤ 0 → n ≡ 0
+nothing n h = omega arith
+
+abbrev Inv-loop : tie.InvT-loop
+Inv-loop t base b from node₀ tally₀ left₀ node tally left =
+    (left ≤ deepest) × (lowFrom auxiliaryKind (boxValue b) t left base node tally ≡ lowFrom auxiliaryKind (boxValue b) t deepest base node₀ from)
+
+abbrev μ-loop : tie.MeasureT-loop
+μ-loop t base b from node₀ tally₀ left₀ node tally left = left
+
+-- src/count.rt:21:5
+loop-holds : tie.Need-loop-holds Inv-loop μ-loop
+loop-holds c = search needs
+
+-- src/count.rt:22:9
+sub-left : tie.Need-sub-left Inv-loop μ-loop
+sub-left c = search needs
+
+-- src/count.rt:23:12
+is-missing-requires : tie.Need-is-missing-requires Inv-loop μ-loop
+is-missing-requires c κs = search needs
+
+-- src/count.rt:24:13
+returns : tie.Need-returns Inv-loop μ-loop
+unfolding lowNode lowRecord
+returns c = rw (
+  ← c .before .before .before .loop .inv .1,
+  lowFrom-suc auxiliaryKind _ _ _ (positive _ (c .before .before .loop-test .taken)),
+  ← c .before .is-missing .ensures,
+  c .if1 .taken,
+)
+
+-- src/count.rt:26:13
+at-requires : tie.Need-at-requires Inv-loop μ-loop
+at-requires c κs = search needs
+
+-- src/count.rt:31:12
+before-y-requires : tie.Need-before-y-requires Inv-loop μ-loop
+before-y-requires c κs = search needs
+
+-- src/count.rt:32:13
+visit-requires : tie.Need-visit-requires Inv-loop μ-loop
+visit-requires c κs = search needs
+
+-- src/count.rt:33:16
+before-y-requires-2 : tie.Need-before-y-requires-2 Inv-loop μ-loop
+before-y-requires-2 c κs = search needs
+
+-- src/count.rt:34:17
+visit-requires-2 : tie.Need-visit-requires-2 Inv-loop μ-loop
+visit-requires-2 c κs = search needs
+
+-- src/count.rt:21:5
+loop-less : tie.Need-loop-less Inv-loop μ-loop
+loop-less c = search needs
+
+-- src/count.rt:21:5
+loop-again : tie.Need-loop-again Inv-loop μ-loop
+unfolding lowNode lowRecord
+loop-again c = (
+  omega (arith, c .before .before .before .before .before .before .before .before .before .before .before .before .before .before .loop .inv .0),
+  rw (
+    ← c .before .before .before .before .before .before .before .before .before .before .before .before .before .before .loop .inv .1,
+    lowFrom-suc auxiliaryKind _ _ _ (positive _ (c .before .before .before .before .before .before .before .before .before .before .before .before .before .loop-test .taken)),
+    ← c .before .before .before .before .before .before .before .before .before .before .before .before .is-missing .ensures,
+    c .before .before .before .before .before .before .before .before .before .before .before .if1 .left,
+    ← c .before .before .before .before .before .before .before .before .before .before .at .ensures,
+    ← c .before .before .before .before .before .before-y .ensures,
+    c .before .before .before .before .if2 .taken,
+    ← c .before .before .before .visit .ensures,
+    ← c .before .before .before-y2 .ensures,
+    c .before .if3 .taken,
+    ← c .visit2 .ensures,
+  ),
+)
+
+-- src/count.rt:37:17
+visit-requires-3 : tie.Need-visit-requires-3 Inv-loop μ-loop
+visit-requires-3 c κs = search needs
+
+-- src/count.rt:37:17
+returns-2 : tie.Need-returns-2 Inv-loop μ-loop
+unfolding lowNode lowRecord
+returns-2 c = rw (
+  ← c .before .before .before .before .before .before .before .before .before .before .before .before .before .before .loop .inv .1,
+  lowFrom-suc auxiliaryKind _ _ _ (positive _ (c .before .before .before .before .before .before .before .before .before .before .before .before .before .loop-test .taken)),
+  ← c .before .before .before .before .before .before .before .before .before .before .before .before .is-missing .ensures,
+  c .before .before .before .before .before .before .before .before .before .before .before .if1 .left,
+  ← c .before .before .before .before .before .before .before .before .before .before .at .ensures,
+  ← c .before .before .before .before .before .before-y .ensures,
+  c .before .before .before .before .if2 .taken,
+  ← c .before .before .before .visit .ensures,
+  ← c .before .before .before-y2 .ensures,
+  c .before .if3 .left,
+  ← c .visit3 .ensures,
+)
+
+-- src/count.rt:40:34
+visit-requires-4 : tie.Need-visit-requires-4 Inv-loop μ-loop
+visit-requires-4 c κs = search needs
+
+-- src/count.rt:40:13
+visit-requires-5 : tie.Need-visit-requires-5 Inv-loop μ-loop
+visit-requires-5 c κs = search needs
+
+-- src/count.rt:21:5
+loop-less-2 : tie.Need-loop-less-2 Inv-loop μ-loop
+loop-less-2 c = search needs
+
+-- src/count.rt:21:5
+loop-again-2 : tie.Need-loop-again-2 Inv-loop μ-loop
+unfolding lowNode lowRecord
+loop-again-2 c = (
+  omega (arith, c .before .before .before .before .before .before .before .before .before .before .before .before .loop .inv .0),
+  rw (
+    ← c .before .before .before .before .before .before .before .before .before .before .before .before .loop .inv .1,
+    lowFrom-suc auxiliaryKind _ _ _ (positive _ (c .before .before .before .before .before .before .before .before .before .before .before .loop-test .taken)),
+    ← c .before .before .before .before .before .before .before .before .before .before .is-missing .ensures,
+    c .before .before .before .before .before .before .before .before .before .if1 .left,
+    ← c .before .before .before .before .before .before .before .before .at .ensures,
+    ← c .before .before .before .before-y .ensures,
+    c .before .before .if2 .left,
+    ← c .before .visit4 .ensures,
+    ← c .visit5 .ensures,
+  ),
+)
+
+-- src/count.rt:15:1
+returns-3 : tie.Need-returns-3 Inv-loop μ-loop
+unfolding lowNode lowRecord
+returns-3 c = rw (
+  ← c .before .loop .inv .1,
+  lowFrom-zero auxiliaryKind _ _ _ (nothing _ (c .loop-test .left)),
+)
+
+pub from-low-spec : {M : Type 1} → statement M
+from-low-spec =
+    tie.close
+    (tie.spec
+    Inv-loop
+    μ-loop
+    loop-holds
+    sub-left
+    is-missing-requires
+    returns
+    at-requires
+    before-y-requires
+    visit-requires
+    before-y-requires-2
+    visit-requires-2
+    loop-less
+    loop-again
+    visit-requires-3
+    returns-2
+    visit-requires-4
+    visit-requires-5
+    loop-less-2
+    loop-again-2
+    returns-3)

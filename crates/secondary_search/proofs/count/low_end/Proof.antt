@@ -1,0 +1,56 @@
+use borrow.Author.Needs.{needs}
+use Rattle.nodes.specs.Count.{acrossLeft}
+use borrow.Author.Needs.{needs}
+use Rattle.secondary_search.proofs.count.low_end.Statement.{statement}
+use Rattle.secondary_search.proofs.count.low_end.Tie as tie
+use Rattle.secondary_search.proofs.count.low_end.Reads as reads
+use Rattle.secondary_search.proofs.count.low_end.Lts as lts
+use Rattle.geometry.proofs.Box.before_y.Reads as before-y-reads
+use Rattle.secondary_search.proofs.count.from_low.Reads as from-low-reads
+use Rattle.table.proofs.tally.visit.Reads as visit-reads
+
+-- src/count.rt:83:8
+before-y-requires : tie.Need-before-y-requires
+before-y-requires c κs = search needs
+
+-- src/count.rt:85:42
+visit-requires : tie.Need-visit-requires
+visit-requires c κs = search needs
+
+-- src/count.rt:85:9
+from-low-requires : tie.Need-from-low-requires
+from-low-requires c κs = search needs
+
+-- src/count.rt:85:9
+returns : tie.Need-returns
+unfolding acrossLeft
+returns c = rw (
+  ← c .before .before .before .before .before-y .ensures,
+  c .before .before .before .if1 .taken,
+  ← c .before .visit .ensures,
+  ← c .from-low .ensures,
+)
+
+-- src/count.rt:87:5
+visit-requires-2 : tie.Need-visit-requires-2
+visit-requires-2 c κs = search needs
+
+-- src/count.rt:80:1
+returns-2 : tie.Need-returns-2
+unfolding acrossLeft
+returns-2 c = rw (
+  ← c .before .before .before-y .ensures,
+  c .before .if1 .left,
+  ← c .visit2 .ensures,
+)
+
+pub low-end-spec : {M : Type 1} → statement M
+low-end-spec =
+    tie.close
+    (tie.spec
+    before-y-requires
+    visit-requires
+    from-low-requires
+    returns
+    visit-requires-2
+    returns-2)
