@@ -1,7 +1,8 @@
 // Collecting the slots of a main tree in order.
 ghost use mathlib.Core.Path.{_≡_};
+ghost use Prim.Native.Nat.{_<_};
 ghost use Rattle.table.specs.After.{after};
-ghost use Rattle.primary_build.specs.Collect.{collectBut♯};
+ghost use Rattle.primary_build.specs.Collect.{collectLeaf, collectBut♯};
 use nodes::primary::Primary;
 use nodes::primary::PrimaryRecord;
 use table::runs;
@@ -12,8 +13,21 @@ pub const LOST: u32 = 4294967295;
 // No slot of any table.
 pub const NO_SLOT: u32 = 4294967295;
 
+// Writes a leaf's slot into run A, but for the slot `but`, and gives how many slots it has then.
+fn take(t: &mut [u32], capacity: u32, but: u32, s: u32, taken: u32) -> u32
+    requires { ⌜ taken < capacity ⌝ }
+    ensures { λ r. ⌜ after r (now (t .exit)) ≡ collectLeaf capacity but s taken (now (t .entry)) ⌝ }
+{
+    if s == but {
+        return taken;
+    }
+    runs::put_run(t, capacity, taken, s);
+    taken + 1
+}
+
 // Writes the slots beneath a node of that weight, but for the slot `but`, into run A after the `taken` that it has, and gives how many it has then; LOST
-// where the words hold no such tree. Each child is given a part of the weight, so on any words no more leaves are met than the weight says.
+// where the words hold no such tree. Each child is given a part of the weight, so on any words no more leaves are met than the weight says. The right child
+// is the next turn: a call is made for a left child with children alone.
 pub fn collect(
     t: &mut [u32],
     capacity: u32,
@@ -25,30 +39,42 @@ pub fn collect(
 ) -> u32
     ensures { λ r. ⌜ after r (now (t .exit)) ≡ collectBut♯ fuel capacity but weight (node .0) taken (now (t .entry)) ⌝ }
 {
-    if fuel == 0 {
-        return LOST;
-    }
-    if capacity <= taken {
-        return LOST;
-    }
-    let s = node.slot();
-    if node.is_leaf() {
-        if s == but {
-            return taken;
+    let mut at = node.0;
+    let mut got = taken;
+    let mut rest = weight;
+    let mut left = fuel;
+    while 0 < left {
+        left -= 1;
+        if capacity <= got {
+            return LOST;
         }
-        runs::put_run(t, capacity, taken, s);
-        return taken + 1;
+        if at % 2 == 0 {
+            return take(t, capacity, but, at / 2, got);
+        }
+        let p = PrimaryRecord::at(t, at / 2);
+        let l = p.left;
+        let r = p.right;
+        let first = l.node;
+        let second = r.node;
+        let part = l.weight;
+        if part == 0 {
+            return LOST;
+        }
+        if rest <= part {
+            return LOST;
+        }
+        if first.is_leaf() {
+            if left == 0 {
+                return LOST;
+            }
+            got = take(t, capacity, but, first.slot(), got);
+            rest -= part;
+            at = second.0;
+        } else {
+            got = collect(t, capacity, first, but, got, part, left);
+            rest -= part;
+            at = second.0;
+        }
     }
-    let p = PrimaryRecord::at(t, s);
-    let l = p.left;
-    let r = p.right;
-    let part = l.weight;
-    if part == 0 {
-        return LOST;
-    }
-    if weight <= part {
-        return LOST;
-    }
-    let half = collect(t, capacity, l.node, but, taken, part, fuel - 1);
-    collect(t, capacity, r.node, but, half, weight - part, fuel - 1)
+    LOST
 }

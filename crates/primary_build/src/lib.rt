@@ -3,3 +3,4 @@
 pub mod build;
 pub mod collect;
 pub mod merge;
+pub mod merge_inside;

@@ -1,4 +1,6 @@
 -- What the mirrors of specs/ mean, along any axis and at any places of records: on words that hold a tree they collect its slots, build it and copy it.
+pub mod Steps
 pub mod Collecting
 pub mod Building
+pub mod Few
 pub mod Copying

@@ -6,6 +6,7 @@ ghost use Rattle.table.specs.After.{after};
 ghost use Rattle.table.specs.Layout.{recordPlace};
 ghost use Rattle.nodes.specs.Values.{secondaryArm};
 ghost use Rattle.secondary_build.specs.Build.{runLeaf, build♯, rebuild♯};
+use crate::build_inside;
 use crate::collect;
 use nodes::secondary::SecondaryArm;
 use nodes::secondary::SecondaryRecord;
@@ -24,7 +25,7 @@ fn run_leaf(t: &[u32], capacity: u32, i: u32) -> SecondaryArm
 }
 
 // Builds a tree of the n slots of run A from its place i on: the first half goes left.
-pub fn build(t: &mut [u32], base: u32, capacity: u32, i: u32, n: u32) -> SecondaryArm
+fn build_anywhere(t: &mut [u32], base: u32, capacity: u32, i: u32, n: u32) -> SecondaryArm
     requires { ⌜ i + n < 2 ^ 32 ⌝ }
     ensures { λ r. ⌜ after (secondaryArm r) (now (t .exit)) ≡ build♯ alongY n (recordPlace base) capacity i n (now (t .entry)) ⌝ }
 {
@@ -32,11 +33,26 @@ pub fn build(t: &mut [u32], base: u32, capacity: u32, i: u32, n: u32) -> Seconda
         return run_leaf(t, capacity, i);
     }
     let half = n / 2;
-    let l = build(t, base, capacity, i, half);
-    let r = build(t, base, capacity, i + half, n - half);
+    let l = build_anywhere(t, base, capacity, i, half);
+    let r = build_anywhere(t, base, capacity, i + half, n - half);
     let name = runs::run(t, capacity, i + half);
     SecondaryRecord::put(t, base, name, l, r);
     SecondaryArm::over(name, l, r)
+}
+
+// The same, by the shorter way where the slots stand in run A and that is there.
+pub fn build(t: &mut [u32], base: u32, capacity: u32, i: u32, n: u32) -> SecondaryArm
+    requires { ⌜ i + n < 2 ^ 32 ⌝ }
+    ensures { λ r. ⌜ after (secondaryArm r) (now (t .exit)) ≡ build♯ alongY n (recordPlace base) capacity i n (now (t .entry)) ⌝ }
+{
+    if 0 < n {
+        if i + n <= capacity {
+            if 64 + 19 * (capacity as usize) <= t.len() {
+                return build_inside::build(t, base, capacity, i, n);
+            }
+        }
+    }
+    build_anywhere(t, base, capacity, i, n)
 }
 
 // Builds the tree of an arm afresh, from its slots in order.

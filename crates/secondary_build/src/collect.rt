@@ -11,6 +11,7 @@ use table::runs;
 pub const LOST: u32 = 4294967295;
 
 // Writes the slots beneath a node into run A, after the `taken` that it has, and gives how many it has then; LOST past `most`.
+// A left child that is a leaf is taken here, and the right child is the next turn: a call is made for a left child with children alone.
 pub fn collect(
     t: &mut [u32],
     base: u32,
@@ -22,20 +23,34 @@ pub fn collect(
 ) -> u32
     ensures { λ r. ⌜ after r (now (t .exit)) ≡ collect♯ fuel (recordPlace base) capacity most (node .0) taken (now (t .entry)) ⌝ }
 {
-    if fuel == 0 {
-        return LOST;
+    let mut at = node.0;
+    let mut got = taken;
+    let mut left = fuel;
+    while 0 < left {
+        left -= 1;
+        if most <= got {
+            return LOST;
+        }
+        if at % 2 == 0 {
+            runs::put_run(t, capacity, got, at / 2);
+            return got + 1;
+        }
+        let p = SecondaryRecord::at(t, base, at / 2);
+        let l = p.left;
+        let r = p.right;
+        let first = l.node;
+        let second = r.node;
+        if first.is_leaf() {
+            if left == 0 {
+                return LOST;
+            }
+            runs::put_run(t, capacity, got, first.slot());
+            got += 1;
+            at = second.0;
+        } else {
+            got = collect(t, base, capacity, first, got, most, left);
+            at = second.0;
+        }
     }
-    if most <= taken {
-        return LOST;
-    }
-    let s = node.slot();
-    if node.is_leaf() {
-        runs::put_run(t, capacity, taken, s);
-        return taken + 1;
-    }
-    let p = SecondaryRecord::at(t, base, s);
-    let l = p.left;
-    let r = p.right;
-    let half = collect(t, base, capacity, l.node, taken, most, fuel - 1);
-    collect(t, base, capacity, r.node, half, most, fuel - 1)
+    LOST
 }

@@ -4,3 +4,4 @@ pub mod Joining
 pub mod Inserting
 pub mod Striking
 pub mod Auxiliaries
+pub mod Cells

@@ -1,16 +1,19 @@
 // Insertion: down from the root, each arm on the way written once, before its node's children are looked at.
 ghost use mathlib.Core.Path.{_≡_};
-ghost use mathlib.Core.Bool.{true};
-ghost use Prim.Native.Nat.{_<_, _^_};
+ghost use mathlib.Core.Bool.{true, false};
+ghost use Prim.Native.Nat.{_+_, _*_, _<_, _≤_, _^_};
+ghost use lib.ListN.{length};
 ghost use Rattle.model.specs.Sheet.{alongY};
 ghost use Rattle.geometry.specs.Values.{markValue};
 ghost use Rattle.table.specs.After.{after};
 ghost use Rattle.table.specs.Layout.{auxiliaryPlace, recordPlace, deepest};
 ghost use Rattle.nodes.specs.Values.{secondaryArm};
-ghost use Rattle.secondary_update.specs.Insert.{unsteady♯, childPlace, split♯, afresh♯, insert♯};
+ghost use Rattle.secondary_update.specs.Insert.{unsteady♯, childPlace, split♯, afresh♯, insertAfresh, insert♯};
 use geometry::Mark;
 use nodes::secondary::SecondaryArm;
 use nodes::secondary::SecondaryRecord;
+use secondary_build::inside;
+use table::header;
 use table::limits;
 use table::slots;
 use table::weights;
@@ -116,10 +119,126 @@ fn insert_beneath(
     limits::DAMAGED
 }
 
+// Inserts the mark m of slot s beneath the arm at the word `start` without mending, where that arm and every record and mark of a slot below the capacity are
+// there: without a test of their words. A name that is no slot is left to the way above.
+fn put_inside(
+    t: &mut [u32],
+    base: u32,
+    capacity: u32,
+    start: usize,
+    m: Mark,
+    s: u32,
+    fuel: u32,
+) -> u32
+    requires { ⌜ (start < 2 ^ 40) × (start + 4 ≤ length (now t)) × (64 + 16 * capacity ≤ length (now t)) × (base + 8 * capacity ≤ length (now t)) ⌝ }
+    ensures { λ r. ⌜ after r (now (t .exit)) ≡ insert♯ alongY fuel (recordPlace base) (markValue m) s false start (now (t .entry)) ⌝ }
+{
+    let mut at = start;
+    let mut left = fuel;
+    while 0 < left {
+        let a = inside::arm_at(t, at);
+        let node = a.node;
+        let name = node.slot();
+        if node.is_leaf() {
+            split(t, base, at, a, m, s);
+            return 0;
+        }
+        if capacity <= name {
+            return insert_beneath(t, base, at, m, s, false, left);
+        }
+        left -= 1;
+        let p = inside::record_at(t, base, name);
+        let l = p.left;
+        let r = p.right;
+        if weights::disagree(l.weight, r.weight, a.weight) {
+            return limits::DAMAGED;
+        }
+        let below = m.below_y(inside::mark_at(t, name));
+        inside::put_arm(t, at, a.grown(m.y));
+        at = child_place(base, name, below);
+    }
+    limits::DAMAGED
+}
+
+// Inserts the mark m of slot s beneath the arm at the word `at` without mending, and builds that tree afresh.
+fn insert_afresh(
+    t: &mut [u32],
+    base: u32,
+    capacity: u32,
+    at: usize,
+    m: Mark,
+    s: u32,
+    fuel: u32,
+) -> u32
+    requires { ⌜ (at < 2 ^ 40) × (at + 4 ≤ length (now t)) × (64 + 16 * capacity ≤ length (now t)) × (base + 8 * capacity ≤ length (now t)) ⌝ }
+    ensures { λ r. ⌜ after r (now (t .exit)) ≡ insertAfresh alongY (insert♯ alongY fuel (recordPlace base) (markValue m) s) (recordPlace base) at (now (t .entry)) ⌝ }
+{
+    let done = put_inside(t, base, capacity, at, m, s, fuel);
+    afresh(t, base, at, done)
+}
+
+// An insertion that mends, under the same conditions and as short.
+fn insert_inside(
+    t: &mut [u32],
+    base: u32,
+    capacity: u32,
+    start: usize,
+    m: Mark,
+    s: u32,
+    fuel: u32,
+) -> u32
+    requires { ⌜ (start < 2 ^ 40) × (start + 4 ≤ length (now t)) × (64 + 16 * capacity ≤ length (now t)) × (base + 8 * capacity ≤ length (now t)) ⌝ }
+    ensures { λ r. ⌜ after r (now (t .exit)) ≡ insert♯ alongY fuel (recordPlace base) (markValue m) s true start (now (t .entry)) ⌝ }
+{
+    let mut at = start;
+    let mut left = fuel;
+    while 0 < left {
+        let a = inside::arm_at(t, at);
+        let node = a.node;
+        let name = node.slot();
+        if node.is_leaf() {
+            split(t, base, at, a, m, s);
+            return 0;
+        }
+        if capacity <= name {
+            return insert_beneath(t, base, at, m, s, true, left);
+        }
+        left -= 1;
+        let p = inside::record_at(t, base, name);
+        let l = p.left;
+        let r = p.right;
+        if weights::disagree(l.weight, r.weight, a.weight) {
+            return limits::DAMAGED;
+        }
+        if m.below_y(inside::mark_at(t, name)) {
+            if unsteady(true, true, l.weight, r.weight) {
+                return insert_afresh(t, base, capacity, at, m, s, left);
+            }
+            inside::put_arm(t, at, a.grown(m.y));
+            at = child_place(base, name, true);
+        } else {
+            if unsteady(true, false, l.weight, r.weight) {
+                return insert_afresh(t, base, capacity, at, m, s, left);
+            }
+            inside::put_arm(t, at, a.grown(m.y));
+            at = child_place(base, name, false);
+        }
+    }
+    limits::DAMAGED
+}
+
 // Inserts the mark m, which stands in slot s, into the auxiliary tree of the main node named `owner`; gives the weight of the node built afresh, or 0.
 pub fn insert(t: &mut [u32], base: u32, owner: u32, m: Mark, s: u32) -> u32
     ensures { λ r. ⌜ after r (now (t .exit)) ≡ insert♯ alongY deepest (recordPlace base) (markValue m) s true (auxiliaryPlace owner) (now (t .entry)) ⌝ }
 {
     let start = 75 + 16 * (owner as usize);
+    let capacity = header::capacity(t);
+    if start + 4 <= t.len() {
+        if 64 + 16 * (capacity as usize) <= t.len() {
+            if (base as usize) + 8 * (capacity as usize) <= t.len() {
+                return insert_inside(t, base, capacity, start, m, s, limits::DEEPEST);
+            }
+        }
+    }
     insert_beneath(t, base, start, m, s, true, limits::DEEPEST)
 }

@@ -1,18 +1,25 @@
 // Strike.
 ghost use mathlib.Core.Path.{_≡_};
 ghost use mathlib.Core.Bool.{true};
+ghost use Prim.Native.Nat.{_+_, _*_, _≤_};
+ghost use lib.ListN.{length};
 ghost use Rattle.model.specs.Sheet.{alongY};
 ghost use Rattle.geometry.specs.Values.{markValue};
 ghost use Rattle.table.specs.After.{after};
 ghost use Rattle.table.specs.Layout.{recordPlace, deepest};
+ghost use Rattle.nodes.specs.Arms.{arm, overArm, putRecord};
 ghost use Rattle.nodes.specs.Values.{secondaryArm};
-ghost use Rattle.secondary_update.specs.Strike.{renamed♯, strike♯};
+ghost use Rattle.secondary_update.specs.Node.{balanced, join♯};
+ghost use Rattle.secondary_update.specs.Strike.{renamed♯, withFirst, strike♯};
 ghost use Rattle.secondary_update.specs.Updates.{strikeOf, noStrike};
 ghost use Rattle.secondary_update.specs.Values.{struckValue};
 use crate::node;
 use geometry::Mark;
+use nodes::secondary::Secondary;
 use nodes::secondary::SecondaryArm;
 use nodes::secondary::SecondaryRecord;
+use secondary_build::inside;
+use table::header;
 use table::limits;
 use table::slots;
 use table::weights;
@@ -104,9 +111,145 @@ fn strike_beneath(
     answer(j.arm, j.rebuilt, 0)
 }
 
+// Writes a node over l and r that is balanced.
+fn keep(
+    t: &mut [u32],
+    base: u32,
+    name: u32,
+    l: SecondaryArm,
+    r: SecondaryArm,
+    rebuilt: u32,
+    first: u32,
+) -> Struck
+    ensures { λ u. ⌜ after (struckValue u) (now (t .exit)) ≡ after (strikeOf (overArm name (secondaryArm l) (secondaryArm r)) rebuilt first) (putRecord (now (t .entry)) (recordPlace base name) (secondaryArm l) (secondaryArm r)) ⌝ }
+{
+    SecondaryRecord::put(t, base, name, l, r);
+    answer(SecondaryArm::over(name, l, r), rebuilt, first)
+}
+
+// Writes a node over l and r, and builds it afresh where it is not balanced.
+fn mend(
+    t: &mut [u32],
+    base: u32,
+    name: u32,
+    l: SecondaryArm,
+    r: SecondaryArm,
+    rebuilt: u32,
+    first: u32,
+) -> Struck
+    ensures { λ u. ⌜ after (struckValue u) (now (t .exit)) ≡ withFirst first (join♯ alongY (recordPlace base) name (secondaryArm l) (secondaryArm r) true rebuilt (now (t .entry))) ⌝ }
+{
+    let j = node::join(t, base, name, l, r, true, rebuilt);
+    answer(j.arm, j.rebuilt, first)
+}
+
+// A strike that mends, beneath the node of that number and weight.
+fn strike_anywhere(
+    t: &mut [u32],
+    base: u32,
+    node: u32,
+    weight: u32,
+    m: Mark,
+    s: u32,
+    fuel: u32,
+) -> Struck
+    ensures { λ u. ⌜ after (struckValue u) (now (t .exit)) ≡ strike♯ alongY fuel (recordPlace base) (markValue m) s true (arm node weight 0 0) (now (t .entry)) ⌝ }
+{
+    let a = SecondaryArm {
+        node: Secondary(node),
+        weight,
+        least: 0,
+        greatest: 0,
+    };
+    strike_beneath(t, base, a, m, s, true, fuel)
+}
+
+// The same where every record and mark of a slot below the capacity is there: without a test of their words. A name that is no slot, and a node that is to
+// be built afresh, are left to the way above. A child that lost one mark, as it will, leaves its node balanced.
+fn strike_inside(
+    t: &mut [u32],
+    base: u32,
+    capacity: u32,
+    node: u32,
+    weight: u32,
+    m: Mark,
+    s: u32,
+    fuel: u32,
+) -> Struck
+    requires { ⌜ (64 + 16 * capacity ≤ length (now t)) × (base + 8 * capacity ≤ length (now t)) ⌝ }
+    ensures { λ u. ⌜ after (struckValue u) (now (t .exit)) ≡ strike♯ alongY fuel (recordPlace base) (markValue m) s true (arm node weight 0 0) (now (t .entry)) ⌝ }
+{
+    if fuel == 0 {
+        return damaged();
+    }
+    let name = node / 2;
+    if capacity <= name {
+        return strike_anywhere(t, base, node, weight, m, s, fuel);
+    }
+    let p = inside::record_at(t, base, name);
+    let left = p.left;
+    let right = p.right;
+    if weights::disagree(left.weight, right.weight, weight) {
+        return damaged();
+    }
+    if m.below_y(inside::mark_at(t, name)) {
+        if left.weight == 1 {
+            return answer(right, 0, name);
+        }
+        let less = weights::fewer(left.weight);
+        if weights::balanced(less, right.weight) {
+            let next = left.node;
+            let u = strike_inside(t, base, capacity, next.0, left.weight, m, s, fuel - 1);
+            let c = u.arm;
+            if c.weight == 0 {
+                return damaged();
+            }
+            if c.weight == less {
+                return keep(t, base, name, c, right, u.rebuilt, u.first);
+            }
+            return mend(t, base, name, c, right, u.rebuilt, u.first);
+        }
+        return strike_anywhere(t, base, node, weight, m, s, fuel);
+    }
+    if right.weight == 1 {
+        return answer(left, 0, 0);
+    }
+    let less = weights::fewer(right.weight);
+    if weights::balanced(left.weight, less) {
+        let next = right.node;
+        let u = strike_inside(t, base, capacity, next.0, right.weight, m, s, fuel - 1);
+        let c = u.arm;
+        if c.weight == 0 {
+            return damaged();
+        }
+        let named = renamed(name, s, u.first);
+        if c.weight == less {
+            return keep(t, base, named, left, c, u.rebuilt, 0);
+        }
+        return mend(t, base, named, left, c, u.rebuilt, 0);
+    }
+    strike_anywhere(t, base, node, weight, m, s, fuel)
+}
+
 // Strikes the mark m of slot s from the tree of an arm, which has two marks or more; the unbalanced node nearest the root is built afresh.
 pub fn strike(t: &mut [u32], base: u32, root: SecondaryArm, m: Mark, s: u32) -> Struck
     ensures { λ u. ⌜ after (struckValue u) (now (t .exit)) ≡ strike♯ alongY deepest (recordPlace base) (markValue m) s true (secondaryArm root) (now (t .entry)) ⌝ }
 {
-    strike_beneath(t, base, root, m, s, true, limits::DEEPEST)
+    let capacity = header::capacity(t);
+    let node = root.node;
+    if 64 + 16 * (capacity as usize) <= t.len() {
+        if (base as usize) + 8 * (capacity as usize) <= t.len() {
+            return strike_inside(
+                t,
+                base,
+                capacity,
+                node.0,
+                root.weight,
+                m,
+                s,
+                limits::DEEPEST,
+            );
+        }
+    }
+    strike_anywhere(t, base, node.0, root.weight, m, s, limits::DEEPEST)
 }

@@ -1,18 +1,29 @@
-use Prim.Native.Nat.{ℕ, _<_}
+use Prim.Native.Nat.{ℕ, _<_, _≤_}
 use borrow.Fn.Kinds.{In}
 use borrow.Fn.PlainCycle.{Measures, is, falls, and}
 use Rattle.secondary_build.proofs.collect.+collect.{statement}
 use Rattle.secondary_build.proofs.collect.+collect.Tie.{close}
-use Rattle.secondary_build.specs.Collect.{collectNode, collectRecord, collect♯-suc, collect♯-zero}
-use borrow.Author.Tests.{le-leb, lt-leb}
+use mathlib.Core.Path.{_≡_, sym, _∙_}
+use lib.ListN.{length}
+use Rattle.table.specs.Layout.{recordPlace}
+use Rattle.secondary_build.specs.Collect.{collectNode, collectRecord, collect♯, collect♯-zero, collect♯-suc}
+use Rattle.secondary_build.proofs.Steps.{collect-inner, collect-leaf, collect-left-leaf, collect-spent}
 use borrow.Author.Needs.{needs}
+use native.Mathlib.Omega.{arith}
+use borrow.Author.Tests.{eq-eqb, le-leb, ne-eqb}
 use Rattle.secondary_build.proofs.collect.collect.Reads as collect
 use Rattle.secondary_build.proofs.collect.collect.Kinds as collect-kinds
 use Rattle.secondary_build.proofs.collect.+collect.Lts-collect as collect-lts
-use Rattle.table.proofs.runs.put_run.Reads as put-run-reads
 use Rattle.nodes.proofs.secondary.Secondary.is_leaf.Reads as is-leaf-reads
 use Rattle.nodes.proofs.secondary.Secondary.slot.Reads as slot-reads
 use Rattle.nodes.proofs.secondary.SecondaryRecord.at.Reads as at-reads
+use Rattle.table.proofs.runs.put_run.Reads as put-run-reads
+
+positive : (n : ℕ) → 0 < n → n ≡ 0 → ⊥
+positive n h e = omega arith
+
+nothing : (n : ℕ) → n ≤ 0 → n ≡ 0
+nothing n h = omega arith
 
 abbrev μ-collect : Measures 1 collect-kinds.ps ℕ
 μ-collect κs a = a .1 .1 .1 .1 .1 .1 .0
@@ -23,89 +34,132 @@ collect-at t = and 1 collect-kinds.ps (is 1 collect-kinds.ps μ-collect t) colle
 abbrev collect-below : ℕ → In 1 collect-kinds.ps
 collect-below t = and 1 collect-kinds.ps (falls 1 collect-kinds.ps _<_ μ-collect t) collect.Pre
 
+abbrev collect-Inv-loop : collect-lts.InvT-loop
+collect-Inv-loop t₀ base capacity taken most fuel at₀ got₀ left₀ t at got left =
+    (length t ≡ length t₀) × (left ≤ fuel)
+    × (collect♯ left (recordPlace base) capacity most at got t ≡ collect♯ fuel (recordPlace base) capacity most at₀ got₀ t₀)
+
+abbrev collect-μ-loop : collect-lts.MeasureT-loop
+collect-μ-loop t₀ base capacity taken most fuel at₀ got₀ left₀ t at got left = left
+
 abbrev said : ℕ → collect-lts.Claims
-said t = (slot-reads.Asked, slot-reads.Learnt, is-leaf-reads.Asked, is-leaf-reads.Learnt, put-run-reads.Asked, put-run-reads.Learnt, at-reads.Asked, at-reads.Learnt, collect-below t, collect.Post)
+said t = (put-run-reads.Asked, put-run-reads.Learnt, at-reads.Asked, at-reads.Learnt, is-leaf-reads.Asked, is-leaf-reads.Learnt, slot-reads.Asked, slot-reads.Learnt, collect-below t, collect.Post)
 
--- src/collect.rt:17:9
-collect-returns : (t : ℕ) → collect-lts.Need-returns (said t) (collect-at t) collect.Post
-unfolding collectNode collectRecord
-collect-returns t c = rw (collect♯-zero _ (c .if1 .taken))
-
--- src/collect.rt:20:9
-collect-returns-2 : (t : ℕ) → collect-lts.Need-returns-2 (said t) (collect-at t) collect.Post
-unfolding collectNode collectRecord
-collect-returns-2 t c = rw (collect♯-suc _ (c .before .if1 .left), le-leb _ _ (c .if2 .taken))
-
--- src/collect.rt:22:9
-collect-slot-requires : (t : ℕ) → collect-lts.Need-slot-requires (said t) (collect-at t) collect.Post
-collect-slot-requires t c κs = search needs
-
--- src/collect.rt:23:8
-collect-is-leaf-requires : (t : ℕ) → collect-lts.Need-is-leaf-requires (said t) (collect-at t) collect.Post
-collect-is-leaf-requires t c κs = search needs
-
--- src/collect.rt:24:9
-collect-put-run-requires : (t : ℕ) → collect-lts.Need-put-run-requires (said t) (collect-at t) collect.Post
-collect-put-run-requires t c κs = search needs
-
--- src/collect.rt:25:16
-collect-add-result : (t : ℕ) → collect-lts.Need-add-result (said t) (collect-at t) collect.Post
-collect-add-result t c = search needs
-
--- src/collect.rt:25:9
-collect-same-length : (t : ℕ) → collect-lts.Need-same-length (said t) (collect-at t) collect.Post
-collect-same-length t c = search needs
-
--- src/collect.rt:25:9
-collect-returns-3 : (t : ℕ) → collect-lts.Need-returns-3 (said t) (collect-at t) collect.Post
-unfolding collectNode collectRecord
-collect-returns-3 t c = rw (collect♯-suc _ (c .before .before .before .before .before .before .before .before .if1 .left), lt-leb _ _ (c .before .before .before .before .before .before .before .if2 .left), ← c .before .before .before .before .before .before .slot .ensures, ← c .before .before .before .before .before .is-leaf .ensures, c .before .before .before .before .if3 .taken, ← c .before .before .put-run .ensures)
-
--- src/collect.rt:27:9
-collect-at-requires : (t : ℕ) → collect-lts.Need-at-requires (said t) (collect-at t) collect.Post
-collect-at-requires t c κs = search needs
-
--- src/collect.rt:30:64
-collect-sub-collect : (t : ℕ) → collect-lts.Need-sub-collect (said t) (collect-at t) collect.Post
-collect-sub-collect t c = search needs
+-- src/collect.rt:29:5
+collect-loop-holds : (t : ℕ) → collect-lts.Need-loop-holds (said t) (collect-at t) collect.Post collect-Inv-loop collect-μ-loop
+collect-loop-holds t c = search needs
 
 -- src/collect.rt:30:9
-collect-collect-requires : (t : ℕ) → collect-lts.Need-collect-requires (said t) (collect-at t) collect.Post
-collect-collect-requires t c κs = search needs
+collect-sub-left : (t : ℕ) → collect-lts.Need-sub-left (said t) (collect-at t) collect.Post collect-Inv-loop collect-μ-loop
+collect-sub-left t c = search needs
 
--- src/collect.rt:31:52
-collect-sub-collect-2 : (t : ℕ) → collect-lts.Need-sub-collect-2 (said t) (collect-at t) collect.Post
-collect-sub-collect-2 t c = search needs
+-- src/collect.rt:32:13
+collect-same-length : (t : ℕ) → collect-lts.Need-same-length (said t) (collect-at t) collect.Post collect-Inv-loop collect-μ-loop
+collect-same-length t c = search needs
 
--- src/collect.rt:31:5
-collect-collect-requires-2 : (t : ℕ) → collect-lts.Need-collect-requires-2 (said t) (collect-at t) collect.Post
-collect-collect-requires-2 t c κs = search needs
+-- src/collect.rt:32:13
+collect-returns : (t : ℕ) → collect-lts.Need-returns (said t) (collect-at t) collect.Post collect-Inv-loop collect-μ-loop
+unfolding collectNode
+collect-returns t c = rw (← c .before .before .loop .inv .2, collect♯-suc _ (positive _ (c .before .loop-test .taken)), le-leb _ _ (c .if1 .taken))
 
--- src/collect.rt:13:1
-collect-same-length-2 : (t : ℕ) → collect-lts.Need-same-length-2 (said t) (collect-at t) collect.Post
+-- src/collect.rt:35:13
+collect-put-run-requires : (t : ℕ) → collect-lts.Need-put-run-requires (said t) (collect-at t) collect.Post collect-Inv-loop collect-μ-loop
+collect-put-run-requires t c κs = search needs
+
+-- src/collect.rt:36:20
+collect-add-result : (t : ℕ) → collect-lts.Need-add-result (said t) (collect-at t) collect.Post collect-Inv-loop collect-μ-loop
+collect-add-result t c = search needs
+
+-- src/collect.rt:36:13
+collect-same-length-2 : (t : ℕ) → collect-lts.Need-same-length-2 (said t) (collect-at t) collect.Post collect-Inv-loop collect-μ-loop
 collect-same-length-2 t c = search needs
 
--- src/collect.rt:13:1
-collect-returns-4 : (t : ℕ) → collect-lts.Need-returns-4 (said t) (collect-at t) collect.Post
-unfolding collectNode collectRecord
-collect-returns-4 t c = rw (collect♯-suc _ (c .before .before .before .before .before .before .before .before .before .before .before .before .before .before .before .before .if1 .left), lt-leb _ _ (c .before .before .before .before .before .before .before .before .before .before .before .before .before .before .before .if2 .left), ← c .before .before .before .before .before .before .before .before .before .before .before .before .before .before .slot .ensures, ← c .before .before .before .before .before .before .before .before .before .before .before .before .before .is-leaf .ensures, c .before .before .before .before .before .before .before .before .before .before .before .before .if3 .left, ← c .before .before .before .before .before .before .before .before .before .before .at .ensures, ← c .before .before .before .before .before .before .collect .ensures, ← c .before .before .collect2 .ensures)
+-- src/collect.rt:36:13
+collect-returns-2 : (t : ℕ) → collect-lts.Need-returns-2 (said t) (collect-at t) collect.Post collect-Inv-loop collect-μ-loop
+collect-returns-2 t c = rw (← c .before .before .before .before .before .before .before .loop .inv .2, collect-leaf _ (positive _ (c .before .before .before .before .before .before .loop-test .taken)) _ _ _ _ _ _ (c .before .before .before .before .before .if1 .left) (eq-eqb _ _ (c .before .before .before .before .if2 .taken)), ← c .before .before .put-run .ensures)
+
+-- src/collect.rt:38:13
+collect-at-requires : (t : ℕ) → collect-lts.Need-at-requires (said t) (collect-at t) collect.Post collect-Inv-loop collect-μ-loop
+collect-at-requires t c κs = search needs
+
+-- src/collect.rt:43:12
+collect-is-leaf-requires : (t : ℕ) → collect-lts.Need-is-leaf-requires (said t) (collect-at t) collect.Post collect-Inv-loop collect-μ-loop
+collect-is-leaf-requires t c κs = search needs
+
+-- src/collect.rt:45:17
+collect-same-length-3 : (t : ℕ) → collect-lts.Need-same-length-3 (said t) (collect-at t) collect.Post collect-Inv-loop collect-μ-loop
+collect-same-length-3 t c = search needs
+
+-- src/collect.rt:45:17
+collect-returns-3 : (t : ℕ) → collect-lts.Need-returns-3 (said t) (collect-at t) collect.Post collect-Inv-loop collect-μ-loop
+collect-returns-3 t c = rw (← c .before .before .before .before .before .before .before .before .before .before .before .before .loop .inv .2, collect-inner _ (positive _ (c .before .before .before .before .before .before .before .before .before .before .before .loop-test .taken)) _ _ _ _ _ _ (c .before .before .before .before .before .before .before .before .before .before .if1 .left) (ne-eqb _ _ (c .before .before .before .before .before .before .before .before .before .if2 .left)), collect-spent _ (c .if4 .taken))
+
+-- src/collect.rt:47:45
+collect-slot-requires : (t : ℕ) → collect-lts.Need-slot-requires (said t) (collect-at t) collect.Post collect-Inv-loop collect-μ-loop
+collect-slot-requires t c κs = search needs
+
+-- src/collect.rt:47:13
+collect-put-run-requires-2 : (t : ℕ) → collect-lts.Need-put-run-requires-2 (said t) (collect-at t) collect.Post collect-Inv-loop collect-μ-loop
+collect-put-run-requires-2 t c κs = search needs
+
+-- src/collect.rt:48:13
+collect-add-got : (t : ℕ) → collect-lts.Need-add-got (said t) (collect-at t) collect.Post collect-Inv-loop collect-μ-loop
+collect-add-got t c = search needs
+
+-- src/collect.rt:29:5
+collect-loop-less : (t : ℕ) → collect-lts.Need-loop-less (said t) (collect-at t) collect.Post collect-Inv-loop collect-μ-loop
+collect-loop-less t c = omega (arith, c .before .before .before .before .before .before .before .before .before .before .before .before .before .before .before .before .loop-test .taken)
+
+-- src/collect.rt:29:5
+collect-loop-again : (t : ℕ) → collect-lts.Need-loop-again (said t) (collect-at t) collect.Post collect-Inv-loop collect-μ-loop
+collect-loop-again t c = (search (needs, c .before .before .before .before .before .before .before .before .before .before .before .before .before .before .before .before .before .loop .inv .0), omega (arith, c .before .before .before .before .before .before .before .before .before .before .before .before .before .before .before .before .before .loop .inv .1), rw (← c .before .before .before .before .before .before .before .before .before .before .before .before .before .before .before .before .before .loop .inv .2, collect-inner _ (positive _ (c .before .before .before .before .before .before .before .before .before .before .before .before .before .before .before .before .loop-test .taken)) _ _ _ _ _ _ (c .before .before .before .before .before .before .before .before .before .before .before .before .before .before .before .if1 .left) (ne-eqb _ _ (c .before .before .before .before .before .before .before .before .before .before .before .before .before .before .if2 .left)), ← c .before .before .before .before .before .before .before .before .before .before .before .before .at .ensures, collect-left-leaf _ (c .before .before .before .before .before .if4 .left) _ _ _ _ _ _ (c .before .before .before .before .before .before .before .before .before .before .before .before .before .before .before .if1 .left) (sym (c .before .before .before .before .before .before .before .is-leaf .ensures) ∙ c .before .before .before .before .before .before .if3 .taken), ← c .before .before .before .slot .ensures, ← c .before .before .put-run2 .ensures))
+
+-- src/collect.rt:51:13
+collect-collect-requires : (t : ℕ) → collect-lts.Need-collect-requires (said t) (collect-at t) collect.Post collect-Inv-loop collect-μ-loop
+collect-collect-requires t c κs = search needs
+
+-- src/collect.rt:29:5
+collect-loop-less-2 : (t : ℕ) → collect-lts.Need-loop-less-2 (said t) (collect-at t) collect.Post collect-Inv-loop collect-μ-loop
+collect-loop-less-2 t c = omega (arith, c .before .before .before .before .before .before .before .before .before .before .before .before .before .before .loop-test .taken)
+
+-- src/collect.rt:29:5
+collect-loop-again-2 : (t : ℕ) → collect-lts.Need-loop-again-2 (said t) (collect-at t) collect.Post collect-Inv-loop collect-μ-loop
+unfolding collectRecord
+collect-loop-again-2 t c = (search (needs, c .before .before .before .before .before .before .before .before .before .before .before .before .before .before .before .loop .inv .0), omega (arith, c .before .before .before .before .before .before .before .before .before .before .before .before .before .before .before .loop .inv .1), rw (← c .before .before .before .before .before .before .before .before .before .before .before .before .before .before .before .loop .inv .2, collect-inner _ (positive _ (c .before .before .before .before .before .before .before .before .before .before .before .before .before .before .loop-test .taken)) _ _ _ _ _ _ (c .before .before .before .before .before .before .before .before .before .before .before .before .before .if1 .left) (ne-eqb _ _ (c .before .before .before .before .before .before .before .before .before .before .before .before .if2 .left)), ← c .before .before .before .before .before .before .before .before .before .before .at .ensures, ← c .before .before .collect .ensures))
+
+-- src/collect.rt:15:1
+collect-same-length-4 : (t : ℕ) → collect-lts.Need-same-length-4 (said t) (collect-at t) collect.Post collect-Inv-loop collect-μ-loop
+collect-same-length-4 t c = search needs
+
+-- src/collect.rt:15:1
+collect-returns-4 : (t : ℕ) → collect-lts.Need-returns-4 (said t) (collect-at t) collect.Post collect-Inv-loop collect-μ-loop
+collect-returns-4 t c = rw (← c .before .loop .inv .2, collect♯-zero _ (nothing _ (c .loop-test .left)))
 
 pub +collect-spec : {M : Type 1} → statement M
 +collect-spec = close μ-collect λ t. collect-lts.spec (said t)
     (collect-at t)
     collect.Post
+    collect-Inv-loop
+    collect-μ-loop
+    (collect-loop-holds t)
+    (collect-sub-left t)
+    (collect-same-length t)
     (collect-returns t)
-    (collect-returns-2 t)
-    (collect-slot-requires t)
-    (collect-is-leaf-requires t)
     (collect-put-run-requires t)
     (collect-add-result t)
-    (collect-same-length t)
-    (collect-returns-3 t)
-    (collect-at-requires t)
-    (collect-sub-collect t)
-    (collect-collect-requires t)
-    (collect-sub-collect-2 t)
-    (collect-collect-requires-2 t)
     (collect-same-length-2 t)
+    (collect-returns-2 t)
+    (collect-at-requires t)
+    (collect-is-leaf-requires t)
+    (collect-same-length-3 t)
+    (collect-returns-3 t)
+    (collect-slot-requires t)
+    (collect-put-run-requires-2 t)
+    (collect-add-got t)
+    (collect-loop-less t)
+    (collect-loop-again t)
+    (collect-collect-requires t)
+    (collect-loop-less-2 t)
+    (collect-loop-again-2 t)
+    (collect-same-length-4 t)
     (collect-returns-4 t)

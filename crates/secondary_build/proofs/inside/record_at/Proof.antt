@@ -1,0 +1,143 @@
+use borrow.Author.Needs.{needs}
+use Rattle.secondary_build.proofs.inside.record_at.Statement.{statement}
+use Rattle.nodes.specs.Arms.{recordAt}
+use borrow.Author.Tests.{le-leb}
+use Rattle.secondary_build.proofs.inside.record_at.Tie as tie
+use Rattle.secondary_build.proofs.inside.record_at.Reads as reads
+use Rattle.secondary_build.proofs.inside.record_at.Lts as lts
+
+-- src/inside.rt:73:32
+mul-at : tie.Need-mul-at
+mul-at c = search needs
+
+-- src/inside.rt:73:14
+add-at : tie.Need-add-at
+add-at c = search needs
+
+-- src/inside.rt:75:25
+mul-t7 : tie.Need-mul-t7
+mul-t7 c = search needs
+
+-- src/inside.rt:75:25
+shared-slice-read-t11 : tie.Need-shared-slice-read-t11
+shared-slice-read-t11 c = search needs
+
+-- src/inside.rt:76:19
+add-t9 : tie.Need-add-t9
+add-t9 c = search needs
+
+-- src/inside.rt:76:17
+mul-t8 : tie.Need-mul-t8
+mul-t8 c = search needs
+
+-- src/inside.rt:76:17
+shared-slice-read-t14 : tie.Need-shared-slice-read-t14
+shared-slice-read-t14 c = search needs
+
+-- src/inside.rt:77:18
+add-t15 : tie.Need-add-t15
+add-t15 c = search needs
+
+-- src/inside.rt:77:16
+mul-t16 : tie.Need-mul-t16
+mul-t16 c = search needs
+
+-- src/inside.rt:77:16
+shared-slice-read-t18 : tie.Need-shared-slice-read-t18
+shared-slice-read-t18 c = search needs
+
+-- src/inside.rt:78:21
+add-t19 : tie.Need-add-t19
+add-t19 c = search needs
+
+-- src/inside.rt:78:19
+mul-t20 : tie.Need-mul-t20
+mul-t20 c = search needs
+
+-- src/inside.rt:78:19
+shared-slice-read-t22 : tie.Need-shared-slice-read-t22
+shared-slice-read-t22 c = search needs
+
+-- src/inside.rt:81:27
+add-t7 : tie.Need-add-t7
+add-t7 c = search needs
+
+-- src/inside.rt:81:25
+mul-t9 : tie.Need-mul-t9
+mul-t9 c = search needs
+
+-- src/inside.rt:81:25
+shared-slice-read-t22-2 : tie.Need-shared-slice-read-t22-2
+shared-slice-read-t22-2 c = search needs
+
+-- src/inside.rt:82:19
+add-t19-2 : tie.Need-add-t19-2
+add-t19-2 c = search needs
+
+-- src/inside.rt:82:17
+mul-t16-2 : tie.Need-mul-t16-2
+mul-t16-2 c = search needs
+
+-- src/inside.rt:82:17
+shared-slice-read-t11-2 : tie.Need-shared-slice-read-t11-2
+shared-slice-read-t11-2 c = search needs
+
+-- src/inside.rt:83:18
+add-t15-2 : tie.Need-add-t15-2
+add-t15-2 c = search needs
+
+-- src/inside.rt:83:16
+mul-t8-2 : tie.Need-mul-t8-2
+mul-t8-2 c = search needs
+
+-- src/inside.rt:83:16
+shared-slice-read-t14-2 : tie.Need-shared-slice-read-t14-2
+shared-slice-read-t14-2 c = search needs
+
+-- src/inside.rt:84:21
+add-t20 : tie.Need-add-t20
+add-t20 c = search needs
+
+-- src/inside.rt:84:19
+mul-t26 : tie.Need-mul-t26
+mul-t26 c = search needs
+
+-- src/inside.rt:84:19
+shared-slice-read-t18-2 : tie.Need-shared-slice-read-t18-2
+shared-slice-read-t18-2 c = search needs
+
+-- src/inside.rt:69:1
+returns : tie.Need-returns
+unfolding recordAt
+returns c = rw (le-leb _ _ (c .before .before .before .before .before .before .before .before .pre))
+
+pub record-at-spec : {M : Type 1} → statement M
+record-at-spec =
+    tie.close
+    (tie.spec
+    mul-at
+    add-at
+    mul-t7
+    shared-slice-read-t11
+    add-t9
+    mul-t8
+    shared-slice-read-t14
+    add-t15
+    mul-t16
+    shared-slice-read-t18
+    add-t19
+    mul-t20
+    shared-slice-read-t22
+    add-t7
+    mul-t9
+    shared-slice-read-t22-2
+    add-t19-2
+    mul-t16-2
+    shared-slice-read-t11-2
+    add-t15-2
+    mul-t8-2
+    shared-slice-read-t14-2
+    add-t20
+    mul-t26
+    shared-slice-read-t18-2
+    returns)
