@@ -91,14 +91,14 @@ fn find_inside(t: &[u32], capacity: u32, m: Mark, start: u32, fuel: u32) -> u32
             return find_beneath(t, m, Primary(node), left);
         }
         left -= 1;
-        let q = mark_inside(t, s);
+        let here = mark_inside(t, s);
         if node % 2 == 0 {
-            if m.same(q) {
+            if m.same(here) {
                 return s;
             }
             return ABSENT;
         }
-        if m.below_x(q) {
+        if m.below_x(here) {
             node = left_inside(t, s);
         } else {
             node = right_inside(t, s);

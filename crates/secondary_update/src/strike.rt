@@ -1,7 +1,7 @@
 // Strike.
 ghost use mathlib.Core.Path.{_≡_};
 ghost use mathlib.Core.Bool.{true};
-ghost use Prim.Native.Nat.{_+_, _*_, _≤_};
+ghost use Prim.Native.Nat.{_+_, _*_, _<_, _≤_};
 ghost use lib.ListN.{length};
 ghost use Rattle.model.specs.Sheet.{alongY};
 ghost use Rattle.geometry.specs.Values.{markValue};
@@ -176,7 +176,7 @@ fn strike_inside(
     s: u32,
     fuel: u32,
 ) -> Struck
-    requires { ⌜ (64 + 16 * capacity ≤ length (now t)) × (base + 8 * capacity ≤ length (now t)) ⌝ }
+    requires { ⌜ (0 < weight) × (64 + 16 * capacity ≤ length (now t)) × (base + 8 * capacity ≤ length (now t)) ⌝ }
     ensures { λ u. ⌜ after (struckValue u) (now (t .exit)) ≡ strike♯ alongY fuel (recordPlace base) (markValue m) s true (arm node weight 0 0) (now (t .entry)) ⌝ }
 {
     if fuel == 0 {
@@ -201,11 +201,11 @@ fn strike_inside(
             let next = left.node;
             let u = strike_inside(t, base, capacity, next.0, left.weight, m, s, fuel - 1);
             let c = u.arm;
-            if c.weight == 0 {
-                return damaged();
-            }
             if c.weight == less {
                 return keep(t, base, name, c, right, u.rebuilt, u.first);
+            }
+            if c.weight == 0 {
+                return damaged();
             }
             return mend(t, base, name, c, right, u.rebuilt, u.first);
         }
@@ -219,12 +219,12 @@ fn strike_inside(
         let next = right.node;
         let u = strike_inside(t, base, capacity, next.0, right.weight, m, s, fuel - 1);
         let c = u.arm;
-        if c.weight == 0 {
-            return damaged();
-        }
         let named = renamed(name, s, u.first);
         if c.weight == less {
             return keep(t, base, named, left, c, u.rebuilt, 0);
+        }
+        if c.weight == 0 {
+            return damaged();
         }
         return mend(t, base, named, left, c, u.rebuilt, 0);
     }
@@ -237,18 +237,20 @@ pub fn strike(t: &mut [u32], base: u32, root: SecondaryArm, m: Mark, s: u32) -> 
 {
     let capacity = header::capacity(t);
     let node = root.node;
-    if 64 + 16 * (capacity as usize) <= t.len() {
-        if (base as usize) + 8 * (capacity as usize) <= t.len() {
-            return strike_inside(
-                t,
-                base,
-                capacity,
-                node.0,
-                root.weight,
-                m,
-                s,
-                limits::DEEPEST,
-            );
+    if 0 < root.weight {
+        if 64 + 16 * (capacity as usize) <= t.len() {
+            if (base as usize) + 8 * (capacity as usize) <= t.len() {
+                return strike_inside(
+                    t,
+                    base,
+                    capacity,
+                    node.0,
+                    root.weight,
+                    m,
+                    s,
+                    limits::DEEPEST,
+                );
+            }
         }
     }
     strike_anywhere(t, base, node.0, root.weight, m, s, limits::DEEPEST)

@@ -7,7 +7,7 @@ use mathlib.Core.Path.{_≡_}
 use Rattle.nodes.specs.Arms.{arm}
 use Rattle.secondary_update.specs.Node.{balanced}
 use Rattle.secondary_update.specs.Strike.{strikeNode, strikeRecord, strikeLeft, strikeRight, ifStruck, strike♯-zero, strike♯-suc}
-use Rattle.secondary_update.proofs.Cells.{strike-cell, written, kept-left, kept-right}
+use Rattle.secondary_update.proofs.Cells.{strike-cell, written, kept-left, kept-right, some-left, some-right, not-nothing}
 use Rattle.nodes.specs.Values.{secondaryArm}
 use borrow.Author.Needs.{needs}
 use native.Mathlib.Omega.{arith}
@@ -122,11 +122,11 @@ strike-inside-sub-strike-inside t c = search needs
 
 -- src/strike.rt:202:17
 strike-inside-strike-inside-requires : (t : ℕ) → strike-inside-lts.Need-strike-inside-requires (said t) (strike-inside-at t) strike-inside.Post
-strike-inside-strike-inside-requires t c κs = search needs
+strike-inside-strike-inside-requires t c κs = search (needs, c .before .before .before .before .before .before .before .before .before .before .before .before .before .before .before .before .before .before .before .before .pre, some-left _ _ _ _ _ _ (c .before .before .before .before .before .before .before .before .before .before .before .before .before .before .before .before .before .before .before .before .pre .1 .0) (c .before .before .before .before .before .before .before .before .before .before .before .before .disagree .ensures) (c .before .before .before .before .before .before .before .before .before .before .before .if3 .left) (c .before .before .before .before .before .if5 .left) (c .before .before .before .before .fewer .ensures) (c .before .before .before .balanced .ensures) (c .before .before .if6 .taken), c .before .before .before .before .fewer .ensures)
 
 -- src/strike.rt:205:17
-strike-inside-damaged-requires-3 : (t : ℕ) → strike-inside-lts.Need-damaged-requires-3 (said t) (strike-inside-at t) strike-inside.Post
-strike-inside-damaged-requires-3 t c κs = search needs
+strike-inside-keep-requires : (t : ℕ) → strike-inside-lts.Need-keep-requires (said t) (strike-inside-at t) strike-inside.Post
+strike-inside-keep-requires t c κs = search needs
 
 -- src/strike.rt:205:17
 strike-inside-same-length-4 : (t : ℕ) → strike-inside-lts.Need-same-length-4 (said t) (strike-inside-at t) strike-inside.Post
@@ -134,12 +134,12 @@ strike-inside-same-length-4 t c = search needs
 
 -- src/strike.rt:205:17
 strike-inside-returns-5 : (t : ℕ) → strike-inside-lts.Need-returns-5 (said t) (strike-inside-at t) strike-inside.Post
-unfolding strikeNode strikeRecord strikeLeft ifStruck
-strike-inside-returns-5 t c = rw (strike♯-suc _ (c .before .before .before .before .before .before .before .before .before .before .before .before .before .before .before .before .before .before .before .before .before .before .before .before .before .if1 .left), ← c .before .before .before .before .before .before .before .before .before .before .before .before .before .before .before .before .before .before .before .before .before .before .record-at .ensures, ← c .before .before .before .before .before .before .before .before .before .before .before .before .before .before .before .before .before .before .before .disagree .ensures, c .before .before .before .before .before .before .before .before .before .before .before .before .before .before .before .before .before .before .if3 .left, ← c .before .before .before .before .before .before .before .before .before .before .before .before .before .before .before .before .mark-at .ensures, ← c .before .before .before .before .before .before .before .before .before .before .before .before .before .before .before .below-y .ensures, c .before .before .before .before .before .before .before .before .before .before .before .before .before .before .if4 .taken, ne-eqb _ _ (c .before .before .before .before .before .before .before .before .before .before .before .before .if5 .left), ← c .before .before .before .before .before .before .before .before .before .before .before .fewer .ensures, ← c .before .before .before .before .before .before .before .before .before .before .balanced .ensures, c .before .before .before .before .before .before .before .before .before .if6 .taken, strike-cell, ← c .before .before .before .before .before .before .strike-inside .ensures, eq-eqb _ _ (c .before .if7 .taken), ← c .damaged3 .ensures)
+unfolding strikeNode strikeRecord strikeLeft ifStruck written
+strike-inside-returns-5 t c = rw (strike♯-suc _ (c .before .before .before .before .before .before .before .before .before .before .before .before .before .before .before .before .before .before .before .before .before .before .before .before .before .before .before .before .if1 .left), ← c .before .before .before .before .before .before .before .before .before .before .before .before .before .before .before .before .before .before .before .before .before .before .before .before .before .record-at .ensures, ← c .before .before .before .before .before .before .before .before .before .before .before .before .before .before .before .before .before .before .before .before .before .before .disagree .ensures, c .before .before .before .before .before .before .before .before .before .before .before .before .before .before .before .before .before .before .before .before .before .if3 .left, ← c .before .before .before .before .before .before .before .before .before .before .before .before .before .before .before .before .before .before .before .mark-at .ensures, ← c .before .before .before .before .before .before .before .before .before .before .before .before .before .before .before .before .before .before .below-y .ensures, c .before .before .before .before .before .before .before .before .before .before .before .before .before .before .before .before .before .if4 .taken, ne-eqb _ _ (c .before .before .before .before .before .before .before .before .before .before .before .before .before .before .before .if5 .left), ← c .before .before .before .before .before .before .before .before .before .before .before .before .before .before .fewer .ensures, ← c .before .before .before .before .before .before .before .before .before .before .before .before .before .balanced .ensures, c .before .before .before .before .before .before .before .before .before .before .before .before .if6 .taken, strike-cell, ← c .before .before .before .before .before .before .before .before .before .strike-inside .ensures, ne-eqb _ _ (not-nothing _ _ (c .before .before .before .before .if7 .taken) (some-left _ _ _ _ _ _ (c .before .before .before .before .before .before .before .before .before .before .before .before .before .before .before .before .before .before .before .before .before .before .before .before .before .before .before .before .before .before .pre .1 .0) (c .before .before .before .before .before .before .before .before .before .before .before .before .before .before .before .before .before .before .before .before .before .before .disagree .ensures) (c .before .before .before .before .before .before .before .before .before .before .before .before .before .before .before .before .before .before .before .before .before .if3 .left) (c .before .before .before .before .before .before .before .before .before .before .before .before .before .before .before .if5 .left) (c .before .before .before .before .before .before .before .before .before .before .before .before .before .before .fewer .ensures) (c .before .before .before .before .before .before .before .before .before .before .before .before .before .balanced .ensures) (c .before .before .before .before .before .before .before .before .before .before .before .before .if6 .taken))), kept-left (secondaryArm (c .before .before .before .before .before .before .before .before .before .strike-inside .result .arm)) (secondaryArm (c .before .before .before .before .before .before .before .before .before .before .before .before .before .before .before .before .before .before .before .before .before .before .before .before .before .record-at .result .right)) _ _ (c .before .before .before .before .if7 .taken) (c .before .before .before .before .before .before .before .before .before .before .before .before .before .balanced .ensures) (c .before .before .before .before .before .before .before .before .before .before .before .before .if6 .taken), ← c .before .before .keep .ensures)
 
 -- src/strike.rt:208:17
-strike-inside-keep-requires : (t : ℕ) → strike-inside-lts.Need-keep-requires (said t) (strike-inside-at t) strike-inside.Post
-strike-inside-keep-requires t c κs = search needs
+strike-inside-damaged-requires-3 : (t : ℕ) → strike-inside-lts.Need-damaged-requires-3 (said t) (strike-inside-at t) strike-inside.Post
+strike-inside-damaged-requires-3 t c κs = search needs
 
 -- src/strike.rt:208:17
 strike-inside-same-length-5 : (t : ℕ) → strike-inside-lts.Need-same-length-5 (said t) (strike-inside-at t) strike-inside.Post
@@ -147,8 +147,8 @@ strike-inside-same-length-5 t c = search needs
 
 -- src/strike.rt:208:17
 strike-inside-returns-6 : (t : ℕ) → strike-inside-lts.Need-returns-6 (said t) (strike-inside-at t) strike-inside.Post
-unfolding strikeNode strikeRecord strikeLeft ifStruck written
-strike-inside-returns-6 t c = rw (strike♯-suc _ (c .before .before .before .before .before .before .before .before .before .before .before .before .before .before .before .before .before .before .before .before .before .before .before .before .before .before .before .before .before .before .if1 .left), ← c .before .before .before .before .before .before .before .before .before .before .before .before .before .before .before .before .before .before .before .before .before .before .before .before .before .before .before .record-at .ensures, ← c .before .before .before .before .before .before .before .before .before .before .before .before .before .before .before .before .before .before .before .before .before .before .before .before .disagree .ensures, c .before .before .before .before .before .before .before .before .before .before .before .before .before .before .before .before .before .before .before .before .before .before .before .if3 .left, ← c .before .before .before .before .before .before .before .before .before .before .before .before .before .before .before .before .before .before .before .before .before .mark-at .ensures, ← c .before .before .before .before .before .before .before .before .before .before .before .before .before .before .before .before .before .before .before .before .below-y .ensures, c .before .before .before .before .before .before .before .before .before .before .before .before .before .before .before .before .before .before .before .if4 .taken, ne-eqb _ _ (c .before .before .before .before .before .before .before .before .before .before .before .before .before .before .before .before .before .if5 .left), ← c .before .before .before .before .before .before .before .before .before .before .before .before .before .before .before .before .fewer .ensures, ← c .before .before .before .before .before .before .before .before .before .before .before .before .before .before .before .balanced .ensures, c .before .before .before .before .before .before .before .before .before .before .before .before .before .before .if6 .taken, strike-cell, ← c .before .before .before .before .before .before .before .before .before .before .before .strike-inside .ensures, ne-eqb _ _ (c .before .before .before .before .before .before .if7 .left), kept-left (secondaryArm (c .before .before .before .before .before .before .before .before .before .before .before .strike-inside .result .arm)) (secondaryArm (c .before .before .before .before .before .before .before .before .before .before .before .before .before .before .before .before .before .before .before .before .before .before .before .before .before .before .before .record-at .result .right)) _ _ (c .before .before .before .before .if8 .taken) (c .before .before .before .before .before .before .before .before .before .before .before .before .before .before .before .balanced .ensures) (c .before .before .before .before .before .before .before .before .before .before .before .before .before .before .if6 .taken), ← c .before .before .keep .ensures)
+unfolding strikeNode strikeRecord strikeLeft ifStruck
+strike-inside-returns-6 t c = rw (strike♯-suc _ (c .before .before .before .before .before .before .before .before .before .before .before .before .before .before .before .before .before .before .before .before .before .before .before .before .before .before .before .if1 .left), ← c .before .before .before .before .before .before .before .before .before .before .before .before .before .before .before .before .before .before .before .before .before .before .before .before .record-at .ensures, ← c .before .before .before .before .before .before .before .before .before .before .before .before .before .before .before .before .before .before .before .before .before .disagree .ensures, c .before .before .before .before .before .before .before .before .before .before .before .before .before .before .before .before .before .before .before .before .if3 .left, ← c .before .before .before .before .before .before .before .before .before .before .before .before .before .before .before .before .before .before .mark-at .ensures, ← c .before .before .before .before .before .before .before .before .before .before .before .before .before .before .before .before .before .below-y .ensures, c .before .before .before .before .before .before .before .before .before .before .before .before .before .before .before .before .if4 .taken, ne-eqb _ _ (c .before .before .before .before .before .before .before .before .before .before .before .before .before .before .if5 .left), ← c .before .before .before .before .before .before .before .before .before .before .before .before .before .fewer .ensures, ← c .before .before .before .before .before .before .before .before .before .before .before .before .balanced .ensures, c .before .before .before .before .before .before .before .before .before .before .before .if6 .taken, strike-cell, ← c .before .before .before .before .before .before .before .before .strike-inside .ensures, eq-eqb _ _ (c .before .if8 .taken), ← c .damaged3 .ensures)
 
 -- src/strike.rt:210:13
 strike-inside-mend-requires : (t : ℕ) → strike-inside-lts.Need-mend-requires (said t) (strike-inside-at t) strike-inside.Post
@@ -161,7 +161,7 @@ strike-inside-same-length-6 t c = search needs
 -- src/strike.rt:210:13
 strike-inside-returns-7 : (t : ℕ) → strike-inside-lts.Need-returns-7 (said t) (strike-inside-at t) strike-inside.Post
 unfolding strikeNode strikeRecord strikeLeft ifStruck
-strike-inside-returns-7 t c = rw (strike♯-suc _ (c .before .before .before .before .before .before .before .before .before .before .before .before .before .before .before .before .before .before .before .before .before .before .before .before .before .before .before .before .before .before .if1 .left), ← c .before .before .before .before .before .before .before .before .before .before .before .before .before .before .before .before .before .before .before .before .before .before .before .before .before .before .before .record-at .ensures, ← c .before .before .before .before .before .before .before .before .before .before .before .before .before .before .before .before .before .before .before .before .before .before .before .before .disagree .ensures, c .before .before .before .before .before .before .before .before .before .before .before .before .before .before .before .before .before .before .before .before .before .before .before .if3 .left, ← c .before .before .before .before .before .before .before .before .before .before .before .before .before .before .before .before .before .before .before .before .before .mark-at .ensures, ← c .before .before .before .before .before .before .before .before .before .before .before .before .before .before .before .before .before .before .before .before .below-y .ensures, c .before .before .before .before .before .before .before .before .before .before .before .before .before .before .before .before .before .before .before .if4 .taken, ne-eqb _ _ (c .before .before .before .before .before .before .before .before .before .before .before .before .before .before .before .before .before .if5 .left), ← c .before .before .before .before .before .before .before .before .before .before .before .before .before .before .before .before .fewer .ensures, ← c .before .before .before .before .before .before .before .before .before .before .before .before .before .before .before .balanced .ensures, c .before .before .before .before .before .before .before .before .before .before .before .before .before .before .if6 .taken, strike-cell, ← c .before .before .before .before .before .before .before .before .before .before .before .strike-inside .ensures, ne-eqb _ _ (c .before .before .before .before .before .before .if7 .left), ← c .before .before .mend .ensures)
+strike-inside-returns-7 t c = rw (strike♯-suc _ (c .before .before .before .before .before .before .before .before .before .before .before .before .before .before .before .before .before .before .before .before .before .before .before .before .before .before .before .before .before .before .if1 .left), ← c .before .before .before .before .before .before .before .before .before .before .before .before .before .before .before .before .before .before .before .before .before .before .before .before .before .before .before .record-at .ensures, ← c .before .before .before .before .before .before .before .before .before .before .before .before .before .before .before .before .before .before .before .before .before .before .before .before .disagree .ensures, c .before .before .before .before .before .before .before .before .before .before .before .before .before .before .before .before .before .before .before .before .before .before .before .if3 .left, ← c .before .before .before .before .before .before .before .before .before .before .before .before .before .before .before .before .before .before .before .before .before .mark-at .ensures, ← c .before .before .before .before .before .before .before .before .before .before .before .before .before .before .before .before .before .before .before .before .below-y .ensures, c .before .before .before .before .before .before .before .before .before .before .before .before .before .before .before .before .before .before .before .if4 .taken, ne-eqb _ _ (c .before .before .before .before .before .before .before .before .before .before .before .before .before .before .before .before .before .if5 .left), ← c .before .before .before .before .before .before .before .before .before .before .before .before .before .before .before .before .fewer .ensures, ← c .before .before .before .before .before .before .before .before .before .before .before .before .before .before .before .balanced .ensures, c .before .before .before .before .before .before .before .before .before .before .before .before .before .before .if6 .taken, strike-cell, ← c .before .before .before .before .before .before .before .before .before .before .before .strike-inside .ensures, ne-eqb _ _ (c .before .before .before .before .if8 .left), ← c .before .before .mend .ensures)
 
 -- src/strike.rt:212:9
 strike-inside-strike-anywhere-requires-2 :
@@ -203,28 +203,28 @@ strike-inside-sub-strike-inside-2 t c = search needs
 
 -- src/strike.rt:220:13
 strike-inside-strike-inside-requires-2 : (t : ℕ) → strike-inside-lts.Need-strike-inside-requires-2 (said t) (strike-inside-at t) strike-inside.Post
-strike-inside-strike-inside-requires-2 t c κs = search needs
+strike-inside-strike-inside-requires-2 t c κs = search (needs, c .before .before .before .before .before .before .before .before .before .before .before .before .before .before .before .before .before .before .before .before .pre, some-right _ _ _ _ _ _ (c .before .before .before .before .before .before .before .before .before .before .before .before .before .before .before .before .before .before .before .before .pre .1 .0) (c .before .before .before .before .before .before .before .before .before .before .before .before .disagree .ensures) (c .before .before .before .before .before .before .before .before .before .before .before .if3 .left) (c .before .before .before .before .before .if9 .left) (c .before .before .before .before .fewer2 .ensures) (c .before .before .before .balanced2 .ensures) (c .before .before .if10 .taken), c .before .before .before .before .fewer2 .ensures)
 
--- src/strike.rt:223:13
-strike-inside-damaged-requires-4 : (t : ℕ) → strike-inside-lts.Need-damaged-requires-4 (said t) (strike-inside-at t) strike-inside.Post
-strike-inside-damaged-requires-4 t c κs = search needs
-
--- src/strike.rt:223:13
-strike-inside-same-length-9 : (t : ℕ) → strike-inside-lts.Need-same-length-9 (said t) (strike-inside-at t) strike-inside.Post
-strike-inside-same-length-9 t c = search needs
-
--- src/strike.rt:223:13
-strike-inside-returns-10 : (t : ℕ) → strike-inside-lts.Need-returns-10 (said t) (strike-inside-at t) strike-inside.Post
-unfolding strikeNode strikeRecord strikeRight ifStruck
-strike-inside-returns-10 t c = rw (strike♯-suc _ (c .before .before .before .before .before .before .before .before .before .before .before .before .before .before .before .before .before .before .before .before .before .before .before .before .before .if1 .left), ← c .before .before .before .before .before .before .before .before .before .before .before .before .before .before .before .before .before .before .before .before .before .before .record-at .ensures, ← c .before .before .before .before .before .before .before .before .before .before .before .before .before .before .before .before .before .before .before .disagree .ensures, c .before .before .before .before .before .before .before .before .before .before .before .before .before .before .before .before .before .before .if3 .left, ← c .before .before .before .before .before .before .before .before .before .before .before .before .before .before .before .before .mark-at .ensures, ← c .before .before .before .before .before .before .before .before .before .before .before .before .before .before .before .below-y .ensures, c .before .before .before .before .before .before .before .before .before .before .before .before .before .before .if4 .left, ne-eqb _ _ (c .before .before .before .before .before .before .before .before .before .before .before .before .if9 .left), ← c .before .before .before .before .before .before .before .before .before .before .before .fewer2 .ensures, ← c .before .before .before .before .before .before .before .before .before .before .balanced2 .ensures, c .before .before .before .before .before .before .before .before .before .if10 .taken, strike-cell, ← c .before .before .before .before .before .before .strike-inside2 .ensures, eq-eqb _ _ (c .before .if11 .taken), ← c .damaged4 .ensures)
-
--- src/strike.rt:225:13
+-- src/strike.rt:222:13
 strike-inside-renamed-requires : (t : ℕ) → strike-inside-lts.Need-renamed-requires (said t) (strike-inside-at t) strike-inside.Post
 strike-inside-renamed-requires t c κs = search needs
 
--- src/strike.rt:227:13
+-- src/strike.rt:224:13
 strike-inside-keep-requires-2 : (t : ℕ) → strike-inside-lts.Need-keep-requires-2 (said t) (strike-inside-at t) strike-inside.Post
 strike-inside-keep-requires-2 t c κs = search needs
+
+-- src/strike.rt:224:13
+strike-inside-same-length-9 : (t : ℕ) → strike-inside-lts.Need-same-length-9 (said t) (strike-inside-at t) strike-inside.Post
+strike-inside-same-length-9 t c = search needs
+
+-- src/strike.rt:224:13
+strike-inside-returns-10 : (t : ℕ) → strike-inside-lts.Need-returns-10 (said t) (strike-inside-at t) strike-inside.Post
+unfolding strikeNode strikeRecord strikeRight ifStruck written
+strike-inside-returns-10 t c = rw (strike♯-suc _ (c .before .before .before .before .before .before .before .before .before .before .before .before .before .before .before .before .before .before .before .before .before .before .before .before .before .before .before .before .before .if1 .left), ← c .before .before .before .before .before .before .before .before .before .before .before .before .before .before .before .before .before .before .before .before .before .before .before .before .before .before .record-at .ensures, ← c .before .before .before .before .before .before .before .before .before .before .before .before .before .before .before .before .before .before .before .before .before .before .before .disagree .ensures, c .before .before .before .before .before .before .before .before .before .before .before .before .before .before .before .before .before .before .before .before .before .before .if3 .left, ← c .before .before .before .before .before .before .before .before .before .before .before .before .before .before .before .before .before .before .before .before .mark-at .ensures, ← c .before .before .before .before .before .before .before .before .before .before .before .before .before .before .before .before .before .before .before .below-y .ensures, c .before .before .before .before .before .before .before .before .before .before .before .before .before .before .before .before .before .before .if4 .left, ne-eqb _ _ (c .before .before .before .before .before .before .before .before .before .before .before .before .before .before .before .before .if9 .left), ← c .before .before .before .before .before .before .before .before .before .before .before .before .before .before .before .fewer2 .ensures, ← c .before .before .before .before .before .before .before .before .before .before .before .before .before .before .balanced2 .ensures, c .before .before .before .before .before .before .before .before .before .before .before .before .before .if10 .taken, strike-cell, ← c .before .before .before .before .before .before .before .before .before .before .strike-inside2 .ensures, ne-eqb _ _ (not-nothing _ _ (c .before .before .before .before .if11 .taken) (some-right _ _ _ _ _ _ (c .before .before .before .before .before .before .before .before .before .before .before .before .before .before .before .before .before .before .before .before .before .before .before .before .before .before .before .before .before .before .before .pre .1 .0) (c .before .before .before .before .before .before .before .before .before .before .before .before .before .before .before .before .before .before .before .before .before .before .before .disagree .ensures) (c .before .before .before .before .before .before .before .before .before .before .before .before .before .before .before .before .before .before .before .before .before .before .if3 .left) (c .before .before .before .before .before .before .before .before .before .before .before .before .before .before .before .before .if9 .left) (c .before .before .before .before .before .before .before .before .before .before .before .before .before .before .before .fewer2 .ensures) (c .before .before .before .before .before .before .before .before .before .before .before .before .before .before .balanced2 .ensures) (c .before .before .before .before .before .before .before .before .before .before .before .before .before .if10 .taken))), ← c .before .before .before .before .before .before .renamed .ensures, kept-right (secondaryArm (c .before .before .before .before .before .before .before .before .before .before .before .before .before .before .before .before .before .before .before .before .before .before .before .before .before .before .record-at .result .left)) (secondaryArm (c .before .before .before .before .before .before .before .before .before .before .strike-inside2 .result .arm)) _ _ (c .before .before .before .before .if11 .taken) (c .before .before .before .before .before .before .before .before .before .before .before .before .before .before .balanced2 .ensures) (c .before .before .before .before .before .before .before .before .before .before .before .before .before .if10 .taken), ← c .before .before .keep2 .ensures)
+
+-- src/strike.rt:227:13
+strike-inside-damaged-requires-4 : (t : ℕ) → strike-inside-lts.Need-damaged-requires-4 (said t) (strike-inside-at t) strike-inside.Post
+strike-inside-damaged-requires-4 t c κs = search needs
 
 -- src/strike.rt:227:13
 strike-inside-same-length-10 : (t : ℕ) → strike-inside-lts.Need-same-length-10 (said t) (strike-inside-at t) strike-inside.Post
@@ -232,8 +232,8 @@ strike-inside-same-length-10 t c = search needs
 
 -- src/strike.rt:227:13
 strike-inside-returns-11 : (t : ℕ) → strike-inside-lts.Need-returns-11 (said t) (strike-inside-at t) strike-inside.Post
-unfolding strikeNode strikeRecord strikeRight ifStruck written
-strike-inside-returns-11 t c = rw (strike♯-suc _ (c .before .before .before .before .before .before .before .before .before .before .before .before .before .before .before .before .before .before .before .before .before .before .before .before .before .before .before .before .before .before .before .if1 .left), ← c .before .before .before .before .before .before .before .before .before .before .before .before .before .before .before .before .before .before .before .before .before .before .before .before .before .before .before .before .record-at .ensures, ← c .before .before .before .before .before .before .before .before .before .before .before .before .before .before .before .before .before .before .before .before .before .before .before .before .before .disagree .ensures, c .before .before .before .before .before .before .before .before .before .before .before .before .before .before .before .before .before .before .before .before .before .before .before .before .if3 .left, ← c .before .before .before .before .before .before .before .before .before .before .before .before .before .before .before .before .before .before .before .before .before .before .mark-at .ensures, ← c .before .before .before .before .before .before .before .before .before .before .before .before .before .before .before .before .before .before .before .before .before .below-y .ensures, c .before .before .before .before .before .before .before .before .before .before .before .before .before .before .before .before .before .before .before .before .if4 .left, ne-eqb _ _ (c .before .before .before .before .before .before .before .before .before .before .before .before .before .before .before .before .before .before .if9 .left), ← c .before .before .before .before .before .before .before .before .before .before .before .before .before .before .before .before .before .fewer2 .ensures, ← c .before .before .before .before .before .before .before .before .before .before .before .before .before .before .before .before .balanced2 .ensures, c .before .before .before .before .before .before .before .before .before .before .before .before .before .before .before .if10 .taken, strike-cell, ← c .before .before .before .before .before .before .before .before .before .before .before .before .strike-inside2 .ensures, ne-eqb _ _ (c .before .before .before .before .before .before .before .if11 .left), ← c .before .before .before .before .before .before .renamed .ensures, kept-right (secondaryArm (c .before .before .before .before .before .before .before .before .before .before .before .before .before .before .before .before .before .before .before .before .before .before .before .before .before .before .before .before .record-at .result .left)) (secondaryArm (c .before .before .before .before .before .before .before .before .before .before .before .before .strike-inside2 .result .arm)) _ _ (c .before .before .before .before .if12 .taken) (c .before .before .before .before .before .before .before .before .before .before .before .before .before .before .before .before .balanced2 .ensures) (c .before .before .before .before .before .before .before .before .before .before .before .before .before .before .before .if10 .taken), ← c .before .before .keep2 .ensures)
+unfolding strikeNode strikeRecord strikeRight ifStruck
+strike-inside-returns-11 t c = rw (strike♯-suc _ (c .before .before .before .before .before .before .before .before .before .before .before .before .before .before .before .before .before .before .before .before .before .before .before .before .before .before .before .before .if1 .left), ← c .before .before .before .before .before .before .before .before .before .before .before .before .before .before .before .before .before .before .before .before .before .before .before .before .before .record-at .ensures, ← c .before .before .before .before .before .before .before .before .before .before .before .before .before .before .before .before .before .before .before .before .before .before .disagree .ensures, c .before .before .before .before .before .before .before .before .before .before .before .before .before .before .before .before .before .before .before .before .before .if3 .left, ← c .before .before .before .before .before .before .before .before .before .before .before .before .before .before .before .before .before .before .before .mark-at .ensures, ← c .before .before .before .before .before .before .before .before .before .before .before .before .before .before .before .before .before .before .below-y .ensures, c .before .before .before .before .before .before .before .before .before .before .before .before .before .before .before .before .before .if4 .left, ne-eqb _ _ (c .before .before .before .before .before .before .before .before .before .before .before .before .before .before .before .if9 .left), ← c .before .before .before .before .before .before .before .before .before .before .before .before .before .before .fewer2 .ensures, ← c .before .before .before .before .before .before .before .before .before .before .before .before .before .balanced2 .ensures, c .before .before .before .before .before .before .before .before .before .before .before .before .if10 .taken, strike-cell, ← c .before .before .before .before .before .before .before .before .before .strike-inside2 .ensures, eq-eqb _ _ (c .before .if12 .taken), ← c .damaged4 .ensures)
 
 -- src/strike.rt:229:9
 strike-inside-mend-requires-2 : (t : ℕ) → strike-inside-lts.Need-mend-requires-2 (said t) (strike-inside-at t) strike-inside.Post
@@ -246,7 +246,7 @@ strike-inside-same-length-11 t c = search needs
 -- src/strike.rt:229:9
 strike-inside-returns-12 : (t : ℕ) → strike-inside-lts.Need-returns-12 (said t) (strike-inside-at t) strike-inside.Post
 unfolding strikeNode strikeRecord strikeRight ifStruck
-strike-inside-returns-12 t c = rw (strike♯-suc _ (c .before .before .before .before .before .before .before .before .before .before .before .before .before .before .before .before .before .before .before .before .before .before .before .before .before .before .before .before .before .before .before .if1 .left), ← c .before .before .before .before .before .before .before .before .before .before .before .before .before .before .before .before .before .before .before .before .before .before .before .before .before .before .before .before .record-at .ensures, ← c .before .before .before .before .before .before .before .before .before .before .before .before .before .before .before .before .before .before .before .before .before .before .before .before .before .disagree .ensures, c .before .before .before .before .before .before .before .before .before .before .before .before .before .before .before .before .before .before .before .before .before .before .before .before .if3 .left, ← c .before .before .before .before .before .before .before .before .before .before .before .before .before .before .before .before .before .before .before .before .before .before .mark-at .ensures, ← c .before .before .before .before .before .before .before .before .before .before .before .before .before .before .before .before .before .before .before .before .before .below-y .ensures, c .before .before .before .before .before .before .before .before .before .before .before .before .before .before .before .before .before .before .before .before .if4 .left, ne-eqb _ _ (c .before .before .before .before .before .before .before .before .before .before .before .before .before .before .before .before .before .before .if9 .left), ← c .before .before .before .before .before .before .before .before .before .before .before .before .before .before .before .before .before .fewer2 .ensures, ← c .before .before .before .before .before .before .before .before .before .before .before .before .before .before .before .before .balanced2 .ensures, c .before .before .before .before .before .before .before .before .before .before .before .before .before .before .before .if10 .taken, strike-cell, ← c .before .before .before .before .before .before .before .before .before .before .before .before .strike-inside2 .ensures, ne-eqb _ _ (c .before .before .before .before .before .before .before .if11 .left), ← c .before .before .before .before .before .before .renamed .ensures, ← c .before .before .mend2 .ensures)
+strike-inside-returns-12 t c = rw (strike♯-suc _ (c .before .before .before .before .before .before .before .before .before .before .before .before .before .before .before .before .before .before .before .before .before .before .before .before .before .before .before .before .before .before .before .if1 .left), ← c .before .before .before .before .before .before .before .before .before .before .before .before .before .before .before .before .before .before .before .before .before .before .before .before .before .before .before .before .record-at .ensures, ← c .before .before .before .before .before .before .before .before .before .before .before .before .before .before .before .before .before .before .before .before .before .before .before .before .before .disagree .ensures, c .before .before .before .before .before .before .before .before .before .before .before .before .before .before .before .before .before .before .before .before .before .before .before .before .if3 .left, ← c .before .before .before .before .before .before .before .before .before .before .before .before .before .before .before .before .before .before .before .before .before .before .mark-at .ensures, ← c .before .before .before .before .before .before .before .before .before .before .before .before .before .before .before .before .before .before .before .before .before .below-y .ensures, c .before .before .before .before .before .before .before .before .before .before .before .before .before .before .before .before .before .before .before .before .if4 .left, ne-eqb _ _ (c .before .before .before .before .before .before .before .before .before .before .before .before .before .before .before .before .before .before .if9 .left), ← c .before .before .before .before .before .before .before .before .before .before .before .before .before .before .before .before .before .fewer2 .ensures, ← c .before .before .before .before .before .before .before .before .before .before .before .before .before .before .before .before .balanced2 .ensures, c .before .before .before .before .before .before .before .before .before .before .before .before .before .before .before .if10 .taken, strike-cell, ← c .before .before .before .before .before .before .before .before .before .before .before .before .strike-inside2 .ensures, ne-eqb _ _ (c .before .before .before .before .if12 .left), ← c .before .before .before .before .before .before .before .before .renamed .ensures, ← c .before .before .mend2 .ensures)
 
 -- src/strike.rt:231:5
 strike-inside-strike-anywhere-requires-3 :
@@ -284,10 +284,10 @@ pub +strike-inside-spec : {M : Type 1} → statement M
     (strike-inside-balanced-requires t)
     (strike-inside-sub-strike-inside t)
     (strike-inside-strike-inside-requires t)
-    (strike-inside-damaged-requires-3 t)
+    (strike-inside-keep-requires t)
     (strike-inside-same-length-4 t)
     (strike-inside-returns-5 t)
-    (strike-inside-keep-requires t)
+    (strike-inside-damaged-requires-3 t)
     (strike-inside-same-length-5 t)
     (strike-inside-returns-6 t)
     (strike-inside-mend-requires t)
@@ -303,11 +303,11 @@ pub +strike-inside-spec : {M : Type 1} → statement M
     (strike-inside-balanced-requires-2 t)
     (strike-inside-sub-strike-inside-2 t)
     (strike-inside-strike-inside-requires-2 t)
-    (strike-inside-damaged-requires-4 t)
-    (strike-inside-same-length-9 t)
-    (strike-inside-returns-10 t)
     (strike-inside-renamed-requires t)
     (strike-inside-keep-requires-2 t)
+    (strike-inside-same-length-9 t)
+    (strike-inside-returns-10 t)
+    (strike-inside-damaged-requires-4 t)
     (strike-inside-same-length-10 t)
     (strike-inside-returns-11 t)
     (strike-inside-mend-requires-2 t)

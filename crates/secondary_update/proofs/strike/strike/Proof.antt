@@ -12,23 +12,11 @@ use Rattle.table.proofs.header.capacity.Reads as capacity-reads
 capacity-requires : tie.Need-capacity-requires
 capacity-requires c κs = search needs
 
--- src/strike.rt:240:19
-cast-if1 : tie.Need-cast-if1
-cast-if1 c = search needs
-
--- src/strike.rt:240:13
-mul-if1 : tie.Need-mul-if1
-mul-if1 c = search needs
-
--- src/strike.rt:240:8
-add-if1 : tie.Need-add-if1
-add-if1 c = search needs
-
--- src/strike.rt:241:35
+-- src/strike.rt:241:23
 cast-if2 : tie.Need-cast-if2
 cast-if2 c = search needs
 
--- src/strike.rt:241:30
+-- src/strike.rt:241:17
 mul-if2 : tie.Need-mul-if2
 mul-if2 c = search needs
 
@@ -36,19 +24,31 @@ mul-if2 c = search needs
 add-if2 : tie.Need-add-if2
 add-if2 c = search needs
 
--- src/strike.rt:242:13
+-- src/strike.rt:242:39
+cast-if3 : tie.Need-cast-if3
+cast-if3 c = search needs
+
+-- src/strike.rt:242:34
+mul-if3 : tie.Need-mul-if3
+mul-if3 c = search needs
+
+-- src/strike.rt:242:16
+add-if3 : tie.Need-add-if3
+add-if3 c = search needs
+
+-- src/strike.rt:243:17
 strike-inside-requires : tie.Need-strike-inside-requires
 strike-inside-requires c κs = search needs
 
--- src/strike.rt:242:13
+-- src/strike.rt:243:17
 same-length : tie.Need-same-length
 same-length c = search needs
 
--- src/strike.rt:242:13
+-- src/strike.rt:243:17
 returns : tie.Need-returns
 returns c = rw (strike-cell, ← c .before .before .strike-inside .ensures)
 
--- src/strike.rt:245:5
+-- src/strike.rt:256:5
 strike-anywhere-requires : tie.Need-strike-anywhere-requires
 strike-anywhere-requires c κs = search needs
 
@@ -65,12 +65,12 @@ strike-spec =
     tie.close
     (tie.spec
     capacity-requires
-    cast-if1
-    mul-if1
-    add-if1
     cast-if2
     mul-if2
     add-if2
+    cast-if3
+    mul-if3
+    add-if3
     strike-inside-requires
     same-length
     returns
