@@ -1,0 +1,185 @@
+// The peers: each holds marks and counts those of a pane. Only the register and its twin tell visits and what was rebuilt, and only they look whether a mark
+// that is inserted is there already.
+#ifndef PEERS_HPP
+#define PEERS_HPP
+
+#include "markregister.h"
+#include "twin.h"
+#include "work.hpp"
+
+#include <cstdlib>
+#include <utility>
+#include <vector>
+
+// gcc warns of Boost's own insertion where it is inlined, and Boost of its own headers.
+#define BOOST_ALLOW_DEPRECATED_HEADERS
+#pragma GCC diagnostic push
+#pragma GCC diagnostic ignored "-Wmaybe-uninitialized"
+#include <boost/geometry.hpp>
+#include <boost/geometry/index/rtree.hpp>
+#pragma GCC diagnostic pop
+
+struct Counted {
+    uint32_t marks, visits;
+};
+
+// The words of a table, touched once before any clock runs.
+using Words = std::vector<uint32_t>;
+
+// The work has no call that is refused.
+inline void accept(uint32_t number) {
+    if (number != 0) abort();
+}
+
+class Register {
+    Words words;
+
+public:
+    explicit Register(uint32_t n) : words(register_words(n)) {
+        uint32_t live;
+        accept(register_open(words.data(), words.size(), n, &live));
+    }
+
+    uint32_t insert(Mark m) {
+        uint32_t live, rebuilt;
+        accept(register_insert(words.data(), words.size(), m.x, m.y, m.tag, &live, &rebuilt));
+        return rebuilt;
+    }
+
+    uint32_t strike(Mark m) {
+        uint32_t live, rebuilt;
+        accept(register_strike(words.data(), words.size(), m.x, m.y, m.tag, &live, &rebuilt));
+        return rebuilt;
+    }
+
+    Counted count(Pane p) const {
+        Counted c;
+        accept(register_count(words.data(), words.size(), p.x1, p.x2, p.y1, p.y2, &c.marks, &c.visits));
+        return c;
+    }
+};
+
+class Twin {
+protected:
+    Words words;
+
+public:
+    explicit Twin(uint32_t n) : words(register_words(n)) {
+        uint32_t live;
+        accept(twin_open(words.data(), n, &live));
+    }
+
+    uint32_t insert(Mark m) {
+        uint32_t live, rebuilt;
+        accept(twin_insert(words.data(), m.x, m.y, m.tag, &live, &rebuilt));
+        return rebuilt;
+    }
+
+    uint32_t strike(Mark m) {
+        uint32_t live, rebuilt;
+        accept(twin_strike(words.data(), m.x, m.y, m.tag, &live, &rebuilt));
+        return rebuilt;
+    }
+
+    Counted count(Pane p) const {
+        Counted c;
+        accept(twin_count(words.data(), p.x1, p.x2, p.y1, p.y2, &c.marks, &c.visits));
+        return c;
+    }
+};
+
+// The twin with the register's way of counting: what the proof costs, and not the way.
+class Parted : public Twin {
+public:
+    using Twin::Twin;
+
+    Counted count(Pane p) const {
+        Counted c;
+        accept(twin_count_parted(words.data(), p.x1, p.x2, p.y1, p.y2, &c.marks, &c.visits));
+        return c;
+    }
+};
+
+// Every mark is looked at. A column for each number, which the compiler makes vectors of.
+class Scan {
+    std::vector<uint32_t> x, y, tag;
+
+public:
+    explicit Scan(uint32_t n) {
+        x.reserve(n);
+        y.reserve(n);
+        tag.reserve(n);
+    }
+
+    uint32_t insert(Mark m) {
+        x.push_back(m.x);
+        y.push_back(m.y);
+        tag.push_back(m.tag);
+        return 0;
+    }
+
+    uint32_t strike(Mark m) {
+        for (size_t i = 0; i < tag.size(); i++)
+            if (tag[i] == m.tag && x[i] == m.x && y[i] == m.y) {
+                x[i] = x.back();
+                y[i] = y.back();
+                tag[i] = tag.back();
+                x.pop_back();
+                y.pop_back();
+                tag.pop_back();
+                return 0;
+            }
+        abort();
+    }
+
+    Counted count(Pane p) const {
+        uint32_t marks = 0;
+        for (size_t i = 0; i < x.size(); i++) marks += (p.x1 <= x[i]) & (x[i] <= p.x2) & (p.y1 <= y[i]) & (y[i] <= p.y2);
+        return {marks, 0};
+    }
+};
+
+// Counts without keeping what is found.
+struct Nowhere {
+    using iterator_category = std::output_iterator_tag;
+    using value_type = void;
+    using difference_type = void;
+    using pointer = void;
+    using reference = void;
+    Nowhere &operator*() { return *this; }
+    Nowhere &operator++() { return *this; }
+    Nowhere operator++(int) { return *this; }
+    template <class T> Nowhere &operator=(const T &) { return *this; }
+};
+
+template <class Strategy> class Boost {
+    using Point = boost::geometry::model::point<uint32_t, 2, boost::geometry::cs::cartesian>;
+    using Box = boost::geometry::model::box<Point>;
+    using Value = std::pair<Point, uint32_t>;
+    boost::geometry::index::rtree<Value, Strategy> tree;
+
+    static Value value(Mark m) { return {Point(m.x, m.y), m.tag}; }
+
+public:
+    explicit Boost(uint32_t) {}
+
+    uint32_t insert(Mark m) {
+        tree.insert(value(m));
+        return 0;
+    }
+
+    uint32_t strike(Mark m) {
+        if (tree.remove(value(m)) != 1) abort();
+        return 0;
+    }
+
+    Counted count(Pane p) const {
+        Box box(Point(p.x1, p.y1), Point(p.x2, p.y2));
+        return {static_cast<uint32_t>(tree.query(boost::geometry::index::intersects(box), Nowhere())), 0};
+    }
+};
+
+using RStar = Boost<boost::geometry::index::rstar<16>>;
+using Quadratic = Boost<boost::geometry::index::quadratic<16>>;
+
+#endif
