@@ -13,6 +13,7 @@
 struct Stage {
     double ns = 1e300;
     uint64_t operations = 0, answers = 0, visits = 0;
+    uint64_t digest = 0;  // of every single count, in order; made apart from the clock
     uint32_t most = 0;
 };
 
@@ -72,6 +73,7 @@ template <class Peer> Stages run(const Work &work) {
                 if (m.stage.most < c.visits) m.stage.most = c.visits;
             }
         });
+        for (Pane pane : work.panes[k]) m.stage.digest = 31 * m.stage.digest + peer.count(pane).marks;
         finish(stages, "count " + std::to_string(PANE_SIDES[k]) + " cm", m);
     }
     return stages;
@@ -107,7 +109,7 @@ static int compare(const std::vector<Peer> &peers) {
             const std::string &name = p.best[i].first;
             const Stage &a = first.best[i].second, &b = p.best[i].second;
             bool counts = name.compare(0, 5, "count") == 0, told = p.tells && first.tells;
-            if ((counts || told) && a.answers != b.answers) return fail(p.name, name, "answers");
+            if ((counts || told) && (a.answers != b.answers || a.digest != b.digest)) return fail(p.name, name, "answers");
             if (told && (a.visits != b.visits || a.most != b.most)) return fail(p.name, name, "visits");
         }
     return 0;
