@@ -4,4 +4,5 @@ pub mod Counting
 pub mod Held
 pub mod Spots
 pub mod Levels
+pub mod Missing
 pub mod Searching

@@ -4,18 +4,18 @@ use mathlib.Core.Path.{_≡_, ap, _∙_}
 use mathlib.Core.Bool.{Bool, true, false, not}
 use mathlib.Core.List.{List, _++_}
 use native.Mathlib.Omega.{arith}
-use borrow.Author.Tests.{leb-true, le-ltb}
-use lib.Dec.{leb}
+use borrow.Author.Tests.{leb-true, leb-false, ltb-false, le-ltb, le-leb}
+use lib.Dec.{leb, ltb}
 use lib.ListN.{length}
 use Rattle.model.specs.Lists.{if_then_else_}
-use Rattle.model.specs.Axis.{Axis, cellInside, cellClear}
+use Rattle.model.specs.Axis.{Axis}
 use Rattle.model.specs.Register.{Found, Register}
 use Rattle.model.specs.Tree.{Tree, leaf, node, depth, weight, marks, least, greatest}
 use Rattle.model.specs.Search.{inside, clear, arrive, together, search}
-use Rattle.model.specs.Sheet.{Mark, Box, sheet}
+use Rattle.model.specs.Sheet.{Mark, Box, boxCrossed, fromX1, toX2, fromY1, toY2, sheet, alongX, alongY}
 use Rattle.model.specs.Slots.{slotSpace, slotAxis}
 use Rattle.model.specs.Laws.{AxisLaws, Sorted}
-use Rattle.model.proofs.Logic.{by-cases, clash, and-left, and-right, or-true-right}
+use Rattle.model.proofs.Logic.{by-cases, clash, and-left, and-right, or-true-right, or-neither}
 use Rattle.model.proofs.Sorted.{sorted-left, sorted-right}
 use Rattle.model.proofs.Tree.{weight-pos, all-least}
 use Rattle.model.proofs.Search.{cell-ordered, cells-follow, clear-none}
@@ -23,7 +23,7 @@ use Rattle.table.specs.Tally.{visited, mostVisits, pack}
 use Rattle.table.proofs.Tallies.{visited-pack}
 use Rattle.nodes.specs.Arms.{Arm, Record, arms, recordMissing, recordAt}
 use Rattle.nodes.specs.Holds.{number, armOf}
-use Rattle.nodes.specs.Count.{Kind, lowRecord, lowNode, lowFrom, highRecord, highNode, highFrom, acrossLeft, acrossRight, acrossRecord, across, countRecord, countNode, countArm, countFrom}
+use Rattle.nodes.specs.Count.{Kind, Side, sideAlong, lowRecord, lowNode, lowFrom, highRecord, highNode, highFrom, lowEnd, highEnd, openRecord, openNode, openFrom, countTree}
 
 visit-more : (k v : ℕ) → k ≤ 65536 → v < mostVisits → visited (pack k v) 0 ≡ pack k (v + 1)
 visit-more k v h i = let z : k + 0 ≡ k = omega arith in rw (visited-pack k v 0 (omega arith) (omega arith), z)
@@ -37,9 +37,27 @@ record-there A f xs at l r e =
     (λ t. le-ltb (length xs) (at + 8) (leb-true (at + 8) (length xs) t))
     (λ t. let z = ap (λ p. p .left .weight) (rw t at e) in absurd (omega (arith, z, weight-pos l)))
 
-module _ {I : Type 0} (K : Kind) (f : ℕ → Mark) (b : Box) (R : Register ℕ Box I) (O : AxisLaws (slotSpace f sheet) (slotAxis f (K .axis))) (xs : List ℕ) where
+-- a coordinate before the box's side is not past it
+abbrev pub Straight : Axis Mark Box → Box → Type 0
+Straight A b = (v : ℕ) → A .fromLow b v ≡ false → A .toHigh b v ≡ true
+
+pub straight-x : (b : Box) → boxCrossed b ≡ false → Straight alongX b
+unfolding boxCrossed fromX1 toX2
+straight-x b e v h =
+    le-leb v (b .x2) (omega (arith, leb-false (b .x1) v h, ltb-false (b .x2) (b .x1) (or-neither (ltb (b .x2) (b .x1)) (ltb (b .y2) (b .y1)) e .0)))
+
+pub straight-y : (b : Box) → boxCrossed b ≡ false → Straight alongY b
+unfolding boxCrossed fromY1 toY2
+straight-y b e v h =
+    le-leb v (b .y2) (omega (arith, leb-false (b .y1) v h, ltb-false (b .y2) (b .y1) (or-neither (ltb (b .x2) (b .x1)) (ltb (b .y2) (b .y1)) e .1)))
+
+module _ {I : Type 0} (K : Kind) (X : Axis Mark Box) (b : Box) (f : ℕ → Mark) (R : Register ℕ Box I) (O : AxisLaws (slotSpace f sheet) (slotAxis f X))
+    (xs : List ℕ) where
+  abbrev S : Side
+  S = sideAlong X b
+
   abbrev A : Axis ℕ Box
-  A = slotAxis f (K .axis)
+  A = slotAxis f X
 
   -- the model's count
   abbrev found : Tree ℕ I → Found
@@ -97,13 +115,13 @@ module _ {I : Type 0} (K : Kind) (f : ℕ → Mark) (b : Box) (R : Register ℕ 
 
   -- what the arrival at a tree inside the side is to make of a tally
   abbrev pub Taken : ℕ → Tree ℕ I → Type 0
-  Taken base t = inside A b t ≡ true → (k v : ℕ) → Room t k v → K .take base (armOf (K .axis) f t) (pack k v) ≡ pack (k + found t .found) (v + found t .visits)
+  Taken base t = inside A b t ≡ true → (k v : ℕ) → Room t k v → K .take base (armOf X f t) (pack k v) ≡ pack (k + found t .found) (v + found t .visits)
 
   -- the words hold a tree whose level begins at a word, and what stands beneath it
   abbrev pub Laid : ℕ → Tree ℕ I → Type 0
   Laid base (leaf s) = Taken base (leaf s)
   Laid base (node i l r) =
-      (recordAt xs (K .place base (least r)) ≡ arms (armOf (K .axis) f l) (armOf (K .axis) f r))
+      (recordAt xs (K .place base (least r)) ≡ arms (armOf X f l) (armOf X f r))
       × Taken base (node i l r) × Laid (K .deeper base) l × Laid (K .deeper base) r
 
   laid-taken : (base : ℕ) (t : Tree ℕ I) → Laid base t → Taken base t
@@ -118,32 +136,28 @@ module _ {I : Type 0} (K : Kind) (f : ℕ → Mark) (b : Box) (R : Register ℕ 
       (λ t. rw t (by-cases (clear A b (node i l r)) (λ u. rw u (omega arith)) (λ u. rw u (omega arith))))
 
   -- one node of each walk, on words that hold its record
-  module _ (base : ℕ) (l r : Tree ℕ I) (e : recordAt xs (K .place base (least r)) ≡ arms (armOf (K .axis) f l) (armOf (K .axis) f r)) where
+  module _ (base : ℕ) (l r : Tree ℕ I) (e : recordAt xs (K .place base (least r)) ≡ arms (armOf X f l) (armOf X f r)) where
     abbrev both : Record
-    both = arms (armOf (K .axis) f l) (armOf (K .axis) f r)
+    both = arms (armOf X f l) (armOf X f r)
 
     half : (2 * least r + 1) / 2 ≡ least r
     half = omega arith
 
-    low-node : (n tally : ℕ) → lowFrom K b xs (suc n) base (2 * least r + 1) tally ≡ lowRecord K b (lowFrom K b xs n) base both tally
+    low-node : (n tally : ℕ) → lowFrom K S xs (suc n) base (2 * least r + 1) tally ≡ lowRecord K S (lowFrom K S xs n) base both tally
     unfolding lowFrom lowNode
-    low-node n tally = rw (half, record-there (K .axis) f xs (K .place base (least r)) l r e, e)
+    low-node n tally = rw (half, record-there X f xs (K .place base (least r)) l r e, e)
 
-    high-node : (n tally : ℕ) → highFrom K b xs (suc n) base (2 * least r + 1) tally ≡ highRecord K b (highFrom K b xs n) base both tally
+    high-node : (n tally : ℕ) → highFrom K S xs (suc n) base (2 * least r + 1) tally ≡ highRecord K S (highFrom K S xs n) base both tally
     unfolding highFrom highNode
-    high-node n tally = rw (half, record-there (K .axis) f xs (K .place base (least r)) l r e, e)
+    high-node n tally = rw (half, record-there X f xs (K .place base (least r)) l r e, e)
 
-    across-node : (tally : ℕ) → across K b xs base (2 * least r + 1) tally ≡ acrossRecord K b xs (K .deeper base) both tally
-    unfolding across
-    across-node tally = rw (half, e)
-
-    count-node : (n tally : ℕ) → countNode K b xs (countFrom K b xs n) base (2 * least r + 1) tally ≡ countRecord K b xs (countFrom K b xs n) base (2 * least r + 1) both tally
-    unfolding countNode
-    count-node n tally = rw (half, record-there (K .axis) f xs (K .place base (least r)) l r e, e)
+    open-node : (n tally : ℕ) → openFrom K S xs (suc n) base (2 * least r + 1) tally ≡ openRecord K S xs (openFrom K S xs n) base both tally
+    unfolding openFrom openNode
+    open-node n tally = rw (half, record-there X f xs (K .place base (least r)) l r e, e)
 
   -- beneath a node in which the side begins, and which ends on it, once it is visited
   low-adds : (n base : ℕ) (t : Tree ℕ I) → depth t ≤ n → Laid base t → Ordered t → begun t ≡ false → begins t ≡ true → lasts t ≡ true
-      → (k v : ℕ) → Room t k v → lowFrom K b xs n base (number t) (pack k (v + 1)) ≡ pack (k + found t .found) (v + found t .visits)
+      → (k v : ℕ) → Room t k v → lowFrom K S xs n base (number t) (pack k (v + 1)) ≡ pack (k + found t .found) (v + found t .visits)
   unfolding lowRecord
   low-adds n base (leaf m) d h s o p q k v room = clash p o
   low-adds zero base (node i l r) d h s o p q k v room = absurd (omega arith)
@@ -178,7 +192,7 @@ module _ {I : Type 0} (K : Kind) (f : ℕ → Mark) (b : Box) (R : Register ℕ 
 
   -- beneath a node that begins on the side, and in which it ends, once it is visited
   high-adds : (n base : ℕ) (t : Tree ℕ I) → depth t ≤ n → Laid base t → Ordered t → begun t ≡ true → goesOn t ≡ true → lasts t ≡ false
-      → (k v : ℕ) → Room t k v → highFrom K b xs n base (number t) (pack k (v + 1)) ≡ pack (k + found t .found) (v + found t .visits)
+      → (k v : ℕ) → Room t k v → highFrom K S xs n base (number t) (pack k (v + 1)) ≡ pack (k + found t .found) (v + found t .visits)
   unfolding highRecord
   high-adds n base (leaf m) d h s o p q k v room = clash p q
   high-adds zero base (node i l r) d h s o p q k v room = absurd (omega arith)
@@ -215,34 +229,33 @@ module _ {I : Type 0} (K : Kind) (f : ℕ → Mark) (b : Box) (R : Register ℕ 
         high-adds n (K .deeper base) l (omega arith) (h .2) sl o p u k (v + 1 + 1) (omega arith, omega arith),
       ) (omega arith)))))
 
-  -- the two children in which the side begins and ends
-  left-adds : (base : ℕ) (t : Tree ℕ I) → depth t ≤ 40 → Laid base t → Ordered t → begins t ≡ true → lasts t ≡ true
-      → (k v : ℕ) → Room t k v → acrossLeft K b xs base (armOf (K .axis) f t) (pack k v) ≡ pack (k + found t .found) (v + found t .visits)
-  unfolding acrossLeft
-  left-adds base t d h s p q k v room =
-      by-cases (begun t)
-      (λ o. rw o (laid-taken base t h (rw (o, q)) k v room))
-      (λ o. rw (o, visit-more k v (omega arith) (omega (arith, visits-some t))) (low-adds 40 base t d h s o p q k v room))
+  clear-adds : (t : Tree ℕ I) → Ordered t → clear A b t ≡ true → (k v : ℕ) → Room t k v → visited (pack k v) 0 ≡ pack (k + found t .found) (v + found t .visits)
+  clear-adds t s c k v room =
+      let is = found-clear t s c in
+      let hk = (rw is at room .0) in
+      let hv = (rw is at room .1) in
+      rw (is, visit-more k v (omega arith) (omega arith)) (omega arith)
 
-  right-adds : (base : ℕ) (t : Tree ℕ I) → depth t ≤ 40 → Laid base t → Ordered t → begun t ≡ true → goesOn t ≡ true
-      → (k v : ℕ) → Room t k v → acrossRight K b xs base (armOf (K .axis) f t) (pack k v) ≡ pack (k + found t .found) (v + found t .visits)
-  unfolding acrossRight
-  right-adds base t d h s o p k v room =
-      by-cases (lasts t)
-      (λ q. rw q (laid-taken base t h (rw (o, q)) k v room))
-      (λ q. rw (q, visit-more k v (omega arith) (omega (arith, visits-some t))) (high-adds 40 base t d h s o p q k v room))
+  -- the two children of a node where the ends of the side part
+  low-end-adds : (base : ℕ) (t : Tree ℕ I) → depth t ≤ 40 → Laid base t → Ordered t → lasts t ≡ true
+      → (k v : ℕ) → Room t k v → lowEnd K S xs base (armOf X f t) (pack k v) ≡ pack (k + found t .found) (v + found t .visits)
+  unfolding lowEnd
+  low-end-adds base t d h s q k v room =
+      by-cases (begins t)
+      (λ p. by-cases (begun t)
+      (λ o. rw (p, o) (laid-taken base t h (rw (o, q)) k v room))
+      (λ o. rw (p, o, visit-more k v (omega arith) (omega (arith, visits-some t))) (low-adds 40 base t d h s o p q k v room)))
+      (λ p. rw p (clear-adds t s (rw p) k v room))
 
-  across-adds : (base : ℕ) (i : I) (l r : Tree ℕ I) → depth (node i l r) ≤ 40 → Laid base (node i l r) → Ordered (node i l r) → begins l ≡ true → goesOn r ≡ true
-      → (k v : ℕ) → k + (found l .found + found r .found) ≤ 65536 → v + (found l .visits + found r .visits) ≤ mostVisits
-      → across K b xs base (2 * least r + 1) (pack k v) ≡ pack (k + (found l .found + found r .found)) (v + (found l .visits + found r .visits))
-  unfolding acrossRecord
-  across-adds base i l r d h s p o k v hk hv =
-      rw (
-        across-node base l r (h .0) (pack k v),
-        left-adds (K .deeper base) l (omega arith) (h .2) (sorted-left (marks l) (marks r) s) p (goesOn-lasts l r s o) k v (omega arith, omega arith),
-        right-adds (K .deeper base) r (omega arith) (h .3) (sorted-right (marks l) (marks r) s) (begins-begun l r s p) o (k + found l .found)
-            (v + found l .visits) (omega arith, omega arith),
-      ) (omega arith)
+  high-end-adds : (base : ℕ) (t : Tree ℕ I) → depth t ≤ 40 → Laid base t → Ordered t → begun t ≡ true
+      → (k v : ℕ) → Room t k v → highEnd K S xs base (armOf X f t) (pack k v) ≡ pack (k + found t .found) (v + found t .visits)
+  unfolding highEnd
+  high-end-adds base t d h s o k v room =
+      by-cases (goesOn t)
+      (λ p. by-cases (lasts t)
+      (λ q. rw (p, q) (laid-taken base t h (rw (o, q)) k v room))
+      (λ q. rw (p, q, visit-more k v (omega arith) (omega (arith, visits-some t))) (high-adds 40 base t d h s o p q k v room)))
+      (λ p. rw p (clear-adds t s (clear-after t p) k v room))
 
   -- a lone mark's cell that is not inside the side is clear of it
   leaf-clear : (m : ℕ) → inside {I = I} A b (leaf m) ≡ false → clear {I = I} A b (leaf m) ≡ true
@@ -251,74 +264,79 @@ module _ {I : Type 0} (K : Kind) (f : ℕ → Mark) (b : Box) (R : Register ℕ 
       (λ t. let u : A .toHigh b (A .at m) ≡ false = (rw t at e) in rw (t, u))
       (λ t. rw t)
 
-  clear-adds : (t : Tree ℕ I) → Ordered t → clear A b t ≡ true → (k v : ℕ) → Room t k v → visited (pack k v) 0 ≡ pack (k + found t .found) (v + found t .visits)
-  clear-adds t s c k v room =
-      let is = found-clear t s c in
-      let hk = (rw is at room .0) in
-      let hv = (rw is at room .1) in
-      rw (is, visit-more k v (omega arith) (omega arith)) (omega arith)
+  -- a cell that is not clear of the side
+  not-clear : (t : Tree ℕ I) → clear A b t ≡ false → (begins t ≡ true) × (goesOn t ≡ true)
+  not-clear t e =
+      by-cases (begins t)
+      (λ p. by-cases (goesOn t) (λ o. (p, o)) (λ o. clash (clear-after t o) e))
+      (λ p. let t : clear A b t ≡ true = (rw p) in clash t e)
 
-  -- one arrival, by the three ways on
-  module _ (n base : ℕ) (a : Arm) (tally : ℕ) where
-    count-inside : cellInside (K .axis) b (a .least) (a .greatest) ≡ true → countFrom K b xs (suc n) base a tally ≡ K .take base a tally
-    unfolding countFrom countArm
-    count-inside t = rw t
+  -- where the box's side is not the wrong way round
+  module _ (straight : Straight X b) where
+    past-outside : (t : Tree ℕ I) → lasts t ≡ false → inside A b t ≡ false
+    past-outside t q = by-cases (begun t) (λ o. rw (o, q)) (λ o. rw o)
 
-    count-clear : cellInside (K .axis) b (a .least) (a .greatest) ≡ false → cellClear (K .axis) b (a .least) (a .greatest) ≡ true
-        → countFrom K b xs (suc n) base a tally ≡ visited tally 0
-    unfolding countFrom countArm
-    count-clear t c = rw (t, c)
+    past-begins : (t : Tree ℕ I) → lasts t ≡ false → begins t ≡ true
+    past-begins t q = by-cases (begins t) (λ p. p) (λ p. clash (straight (A .at (greatest t)) p) q)
 
-    count-open : cellInside (K .axis) b (a .least) (a .greatest) ≡ false → cellClear (K .axis) b (a .least) (a .greatest) ≡ false
-        → countFrom K b xs (suc n) base a tally ≡ countNode K b xs (countFrom K b xs n) base (a .node) (visited tally 0)
-    unfolding countFrom countArm
-    count-open t c = rw (t, c)
+    -- beneath a node whose cell is neither inside the side nor clear of it, once it is visited
+    open-adds : (n base : ℕ) (t : Tree ℕ I) → depth t ≤ n → depth t ≤ 40 → Laid base t → Ordered t → inside A b t ≡ false → clear A b t ≡ false
+        → (k v : ℕ) → Room t k v → openFrom K S xs n base (number t) (pack k (v + 1)) ≡ pack (k + found t .found) (v + found t .visits)
+    unfolding openRecord
+    open-adds n base (leaf m) d g h s i c k v room = clash (leaf-clear m i) c
+    open-adds zero base (node i l r) d g h s o c k v room = absurd (omega arith)
+    open-adds (suc n) base (node i l r) d g h s o c k v room =
+        let sl = sorted-left (marks l) (marks r) s in
+        let sr = sorted-right (marks l) (marks r) s in
+        let met = not-clear (node i l r) c in
+        let vl = visits-some l in
+        let vr = visits-some r in
+        let is = found-open i l r o c in
+        let hk = (rw is at room .0) in
+        let hv = (rw is at room .1) in
+        rw (is, open-node base l r (h .0) n (pack k (v + 1)))
+        (by-cases (begun r)
+        (λ br. by-cases (lasts l)
+        (λ ll. rw (
+          br,
+          ll,
+          low-end-adds (K .deeper base) l (omega arith) (h .2) sl ll k (v + 1) (omega arith, omega arith),
+          high-end-adds (K .deeper base) r (omega arith) (h .3) sr br (k + found l .found) (v + 1 + found l .visits) (omega arith, omega arith),
+        ) (omega arith))
+        (λ ll.
+        let gr = by-cases (goesOn r) (λ t. clash (goesOn-lasts l r s t) ll) (λ t. t) in
+        let cr = found-clear r sr (clear-after r gr) in
+        let jk = (rw cr at hk) in
+        let jv = (rw cr at hv) in
+        rw (
+          br,
+          ll,
+          cr,
+          visit-more k (v + 1) (omega arith) (omega arith),
+          visit-more k (v + 1 + 1) (omega arith) (omega arith),
+          open-adds n (K .deeper base) l (omega arith) (omega arith) (h .2) sl (past-outside l ll)
+              (rw (past-begins l ll, met .1)) k (v + 1 + 1) (omega arith, omega arith),
+        ) (omega arith)))
+        (λ br.
+        let bl = by-cases (begins l) (λ t. clash (begins-begun l r s t) br) (λ t. t) in
+        let cl = found-clear l sl (rw bl) in
+        let jk = (rw cl at hk) in
+        let jv = (rw cl at hv) in
+        rw (
+          br,
+          cl,
+          visit-more k (v + 1) (omega arith) (omega arith),
+          visit-more k (v + 1 + 1) (omega arith) (omega arith),
+          open-adds n (K .deeper base) r (omega arith) (omega arith) (h .3) sr (rw br)
+              (rw (met .0, straight (A .at (least r)) br)) k (v + 1 + 1) (omega arith, omega arith),
+        ) (omega arith)))
 
-  pub count-adds : (n base : ℕ) (t : Tree ℕ I) → depth t < n → depth t ≤ 40 → Laid base t → Ordered t → (k v : ℕ) → Room t k v
-      → countFrom K b xs n base (armOf (K .axis) f t) (pack k v) ≡ pack (k + found t .found) (v + found t .visits)
-  unfolding countRecord
-  count-adds zero base t d g h s k v room = absurd (omega arith)
-  count-adds (suc n) base (leaf m) d g h s k v room =
-      let a = armOf {I = I} (K .axis) f (leaf m) in
-      by-cases (inside {I = I} A b (leaf m))
-      (λ t. count-inside n base a (pack k v) t ∙ h t k v room)
-      (λ t. let c = leaf-clear m t in count-clear n base a (pack k v) t c ∙ clear-adds (leaf m) s c k v room)
-  count-adds (suc n) base (node i l r) d g h s k v room =
-      let a = armOf (K .axis) f (node i l r) in
-      let sl = sorted-left (marks l) (marks r) s in
-      let sr = sorted-right (marks l) (marks r) s in
-      let vl = visits-some l in
-      let vr = visits-some r in
-      by-cases (inside A b (node i l r))
-      (λ t. count-inside n base a (pack k v) t ∙ h .1 t k v room)
-      (λ t. by-cases (clear A b (node i l r))
-      (λ c. count-clear n base a (pack k v) t c ∙ clear-adds (node i l r) s c k v room)
-      (λ c.
-      let is = found-open i l r t c in
-      let hk = (rw is at room .0) in
-      let hv = (rw is at room .1) in
-      rw (is, count-open n base a (pack k v) t c, visit-more k v (omega arith) (omega arith), count-node base l r (h .0) n (pack k (v + 1)))
-      (by-cases (begins l)
-      (λ p. by-cases (goesOn r)
-      (λ o. rw (p, o, across-adds base i l r g h s p o k (v + 1) (omega arith) (omega arith)) (omega arith))
-      (λ o.
-      let cr = found-clear r sr (clear-after r o) in
-      let jk = (rw cr at hk) in
-      let jv = (rw cr at hv) in
-      rw (
-        p,
-        o,
-        cr,
-        visit-more k (v + 1) (omega arith) (omega arith),
-        count-adds n (K .deeper base) l (omega arith) (omega arith) (h .2) sl k (v + 1 + 1) (omega arith, omega arith),
-      ) (omega arith)))
-      (λ p.
-      let cl = found-clear l sl (rw p) in
-      let jk = (rw cl at hk) in
-      let jv = (rw cl at hv) in
-      rw (
-        p,
-        cl,
-        visit-more k (v + 1) (omega arith) (omega arith),
-        count-adds n (K .deeper base) r (omega arith) (omega arith) (h .3) sr k (v + 1 + 1) (omega arith, omega arith),
-      ) (omega arith)))))
+    pub count-adds : (base : ℕ) (t : Tree ℕ I) → depth t ≤ 40 → Laid base t → Ordered t → (k v : ℕ) → Room t k v
+        → countTree K S xs base (armOf X f t) (pack k v) ≡ pack (k + found t .found) (v + found t .visits)
+    unfolding countTree
+    count-adds base t d h s k v room =
+        by-cases (inside A b t)
+        (λ i. rw i (laid-taken base t h i k v room))
+        (λ i. by-cases (clear A b t)
+        (λ c. rw (i, c) (clear-adds t s c k v room))
+        (λ c. rw (i, c, visit-more k v (omega arith) (omega (arith, visits-some t))) (open-adds 40 base t d d h s i c k v room)))

@@ -1,32 +1,39 @@
 -- The mirror of a count along one side of a box, for main and auxiliary trees alike: what a tree of either kind has of its own is a parameter. It goes
--- down to the node in whose children the side begins and ends, and from there beneath each of the two with one end to look for. Assumes nothing.
+-- down to the node where the ends of the side part, and from there beneath each child with one end to look for. Assumes nothing.
 use Prim.Native.Nat.{ℕ, zero, suc, _-_, _/_}
 use mathlib.Core.Path.{_≡_, refl}
-use mathlib.Core.Bool.{Bool, not}
+use mathlib.Core.Bool.{Bool, not, _&&_, _||_}
 use mathlib.Core.List.{List}
 use native.Mathlib.Omega.{arith}
 use Rattle.model.specs.Lists.{if_then_else_}
-use Rattle.model.specs.Axis.{Axis, cellInside, cellClear}
+use Rattle.model.specs.Axis.{Axis}
 use Rattle.model.specs.Sheet.{Mark, Box}
 use Rattle.table.specs.Layout.{deepest}
 use Rattle.table.specs.Tally.{visited, lost}
 use Rattle.nodes.specs.Arms.{Arm, Record, recordMissing, recordAt}
 
--- the axis of a kind of tree; where the record of a name stands in the level that begins at a word, and where the next level begins; and what the
--- arrival at a tree of a level, inside the side, makes of a tally
+-- a kind of tree: where the record of a name stands in the level that begins at a word, where the next level begins, and what the arrival at a tree of a level,
+-- inside the side, makes of a tally
 pub record Kind : Type 0 where
-  pub axis : Axis Mark Box
   pub place : ℕ → ℕ → ℕ
   pub deeper : ℕ → ℕ
   pub take : ℕ → Arm → ℕ → ℕ
 
-module _ (K : Kind) (b : Box) where
+-- a side of a box: whether a coordinate has reached its low end, and has not passed its high end
+pub record Side : Type 0 where
+  pub fromLow : ℕ → Bool
+  pub toHigh : ℕ → Bool
+
+abbrev pub sideAlong : Axis Mark Box → Box → Side
+sideAlong A b = record { fromLow = λ v. A .fromLow b v; toHigh = λ v. A .toHigh b v }
+
+module _ (K : Kind) (S : Side) where
   -- a coordinate before the side, and past it
   abbrev pub before : ℕ → Bool
-  before v = not (K .axis .fromLow b v)
+  before v = not (S .fromLow v)
 
   abbrev pub past : ℕ → Bool
-  past v = not (K .axis .toHigh b v)
+  past v = not (S .toHigh v)
 
   -- from where a node's level begins, its number and a tally
   abbrev pub Beneath : Type 0
@@ -63,40 +70,37 @@ module _ (K : Kind) (b : Box) where
     highFrom zero base n tally = lost
     highFrom (suc f) base n tally = highNode (highFrom f) base n tally
 
-    -- beneath a node whose left child ends on the side and whose right child begins on it
-    unfoldable pub acrossLeft : ℕ → Arm → ℕ → ℕ
-    acrossLeft base a tally = if before (a .least) then lowFrom deepest base (a .node) (visited tally 0) else K .take base a tally
+    -- the arrival at a tree that ends no later than the side, and at one that begins no earlier
+    unfoldable pub lowEnd : ℕ → Arm → ℕ → ℕ
+    lowEnd base a tally =
+        if before (a .greatest) then visited tally 0
+        else (if before (a .least) then lowFrom deepest base (a .node) (visited tally 0) else K .take base a tally)
 
-    unfoldable pub acrossRight : ℕ → Arm → ℕ → ℕ
-    acrossRight base a tally = if past (a .greatest) then highFrom deepest base (a .node) (visited tally 0) else K .take base a tally
+    unfoldable pub highEnd : ℕ → Arm → ℕ → ℕ
+    highEnd base a tally =
+        if past (a .least) then visited tally 0
+        else (if past (a .greatest) then highFrom deepest base (a .node) (visited tally 0) else K .take base a tally)
 
-    unfoldable pub acrossRecord : ℕ → Record → ℕ → ℕ
-    acrossRecord base p tally = acrossRight base (p .right) (acrossLeft base (p .left) tally)
+    -- beneath a node whose cell is neither inside the side nor clear of it: the right child alone meets the side, or the left one alone, or its ends part here
+    unfoldable pub openRecord : Beneath → ℕ → Record → ℕ → ℕ
+    openRecord rec base p tally =
+        if before (p .right .least) then rec (K .deeper base) (p .right .node) (visited (visited tally 0) 0)
+        else (if past (p .left .greatest) then rec (K .deeper base) (p .left .node) (visited (visited tally 0) 0)
+        else highEnd (K .deeper base) (p .right) (lowEnd (K .deeper base) (p .left) tally))
 
-    unfoldable pub across : Beneath
-    across base n tally = acrossRecord (K .deeper base) (recordAt xs (K .place base (n / 2))) tally
+    unfoldable pub openNode : Beneath → Beneath
+    openNode rec base n tally =
+        if recordMissing xs (K .place base (n / 2)) then lost else openRecord rec base (recordAt xs (K .place base (n / 2))) tally
 
-    -- from where the level of a tree begins, its arm and a tally
-    abbrev pub Arrival : Type 0
-    Arrival = ℕ → Arm → ℕ → ℕ
+    unfoldable pub openFrom : ℕ → Beneath
+    openFrom zero base n tally = lost
+    openFrom (suc f) base n tally = openNode (openFrom f) base n tally
 
-    unfoldable pub countRecord : Arrival → ℕ → ℕ → Record → ℕ → ℕ
-    countRecord rec base n p tally =
-        if before (p .left .greatest) then rec (K .deeper base) (p .right) (visited tally 0)
-        else (if past (p .right .least) then rec (K .deeper base) (p .left) (visited tally 0) else across base n tally)
-
-    unfoldable pub countNode : Arrival → ℕ → ℕ → ℕ → ℕ
-    countNode rec base n tally =
-        if recordMissing xs (K .place base (n / 2)) then lost else countRecord rec base n (recordAt xs (K .place base (n / 2))) tally
-
-    unfoldable pub countArm : Arrival → Arrival
-    countArm rec base a tally =
-        if cellInside (K .axis) b (a .least) (a .greatest) then K .take base a tally
-        else (if cellClear (K .axis) b (a .least) (a .greatest) then visited tally 0 else countNode rec base (a .node) (visited tally 0))
-
-    unfoldable pub countFrom : ℕ → Arrival
-    countFrom zero base a tally = lost
-    countFrom (suc f) base a tally = countArm (countFrom f) base a tally
+    -- the arrival at a tree, from where its level begins, its arm and a tally
+    unfoldable pub countTree : ℕ → Arm → ℕ → ℕ
+    countTree base a tally =
+        if S .fromLow (a .least) && S .toHigh (a .greatest) then K .take base a tally
+        else (if before (a .greatest) || past (a .least) then visited tally 0 else openFrom deepest base (a .node) (visited tally 0))
 
     pub lowFrom-zero : (f : ℕ) → f ≡ 0 → (base n tally : ℕ) → lowFrom f base n tally ≡ lost
     unfolding lowFrom
@@ -116,11 +120,11 @@ module _ (K : Kind) (b : Box) where
     highFrom-suc zero h base n tally = absurd (h refl)
     highFrom-suc (suc f) h base n tally = let e : suc f - 1 ≡ f = omega arith in rw e
 
-    pub countFrom-zero : (f : ℕ) → f ≡ 0 → (base : ℕ) (a : Arm) (tally : ℕ) → countFrom f base a tally ≡ lost
-    unfolding countFrom
-    countFrom-zero f e base a tally = rw e
+    pub openFrom-zero : (f : ℕ) → f ≡ 0 → (base n tally : ℕ) → openFrom f base n tally ≡ lost
+    unfolding openFrom
+    openFrom-zero f e base n tally = rw e
 
-    pub countFrom-suc : (f : ℕ) → (f ≡ 0 → ⊥) → (base : ℕ) (a : Arm) (tally : ℕ) → countFrom f base a tally ≡ countArm (countFrom (f - 1)) base a tally
-    unfolding countFrom
-    countFrom-suc zero h base a tally = absurd (h refl)
-    countFrom-suc (suc f) h base a tally = let e : suc f - 1 ≡ f = omega arith in rw e
+    pub openFrom-suc : (f : ℕ) → (f ≡ 0 → ⊥) → (base n tally : ℕ) → openFrom f base n tally ≡ openNode (openFrom (f - 1)) base n tally
+    unfolding openFrom
+    openFrom-suc zero h base n tally = absurd (h refl)
+    openFrom-suc (suc f) h base n tally = let e : suc f - 1 ≡ f = omega arith in rw e

@@ -1,7 +1,8 @@
 // Nodes of the main tree (000's primary nodes): numbers, arms and records, and the arms of their auxiliary trees.
 ghost use mathlib.Core.Path.{_≡_};
-ghost use Prim.Native.Nat.{_/_, _%_, _<_, _^_};
+ghost use Prim.Native.Nat.{_+_, _/_, _%_, _<_, _≤_, _^_};
 ghost use lib.Dec.{eqb};
+ghost use lib.ListN.{length};
 ghost use Rattle.table.specs.Layout.{mainPlace, auxiliaryPlace};
 ghost use Rattle.nodes.specs.Arms.{
   leafNumber,
@@ -151,11 +152,35 @@ impl PrimaryArm {
 }
 
 impl PrimaryRecord {
-    // Whether the words lack the record of that name.
+    // Whether the words lack the record of that name. (What the name is compared with stays the same on a walk, which then has it ready.)
     pub fn is_missing(t: &[u32], name: u32) -> bool
         ensures { λ r. ⌜ r ≡ recordMissing (now (t .entry)) (mainPlace name) ⌝ }
     {
-        t.len() < 67 + 16 * (name as usize) + 8
+        if t.len() < 75 {
+            return true;
+        }
+        (t.len() - 75) / 16 < (name as usize)
+    }
+
+    // The record of that name, which the caller knows to be there.
+    pub fn present(t: &[u32], name: u32) -> PrimaryRecord
+        requires { ⌜ mainPlace name + 8 ≤ length (now t) ⌝ }
+        ensures { λ r. ⌜ primaryRecord r ≡ recordAt (now (t .entry)) (mainPlace name) ⌝ }
+    {
+        let at = 67 + 16 * (name as usize);
+        let left = PrimaryArm {
+            node: Primary(t[at]),
+            weight: t[at + 1],
+            least: t[at + 2],
+            greatest: t[at + 3],
+        };
+        let right = PrimaryArm {
+            node: Primary(t[at + 4]),
+            weight: t[at + 5],
+            least: t[at + 6],
+            greatest: t[at + 7],
+        };
+        PrimaryRecord { left, right }
     }
 
     // The record of the inner node of that name, in its slot.

@@ -1,7 +1,8 @@
 // Nodes of auxiliary trees (000's secondary nodes): numbers, arms and records.
 ghost use mathlib.Core.Path.{_≡_};
-ghost use Prim.Native.Nat.{_/_, _%_, _<_, _^_};
+ghost use Prim.Native.Nat.{_+_, _/_, _%_, _<_, _≤_, _^_};
 ghost use lib.Dec.{eqb};
+ghost use lib.ListN.{length};
 ghost use Rattle.table.specs.Layout.{recordPlace};
 ghost use Rattle.nodes.specs.Arms.{leafNumber, innerNumber, noArm, leafArm, overArm, grownArm, armAt, putArm, recordMissing, recordAt, putRecord};
 ghost use Rattle.nodes.specs.Values.{secondaryArm, secondaryRecord};
@@ -138,11 +139,36 @@ impl SecondaryArm {
 }
 
 impl SecondaryRecord {
-    // Whether the words lack the record of that name.
+    // Whether the words lack the record of that name. (What the name is compared with stays the same on a walk, which then has it ready.)
     pub fn is_missing(t: &[u32], base: u32, name: u32) -> bool
         ensures { λ r. ⌜ r ≡ recordMissing (now (t .entry)) (recordPlace base name) ⌝ }
     {
-        t.len() < (base as usize) + 8 * (name as usize) + 8
+        let first = (base as usize) + 8;
+        if t.len() < first {
+            return true;
+        }
+        (t.len() - first) / 8 < (name as usize)
+    }
+
+    // The record of that name, which the caller knows to be there.
+    pub fn present(t: &[u32], base: u32, name: u32) -> SecondaryRecord
+        requires { ⌜ recordPlace base name + 8 ≤ length (now t) ⌝ }
+        ensures { λ r. ⌜ secondaryRecord r ≡ recordAt (now (t .entry)) (recordPlace base name) ⌝ }
+    {
+        let at = (base as usize) + 8 * (name as usize);
+        let left = SecondaryArm {
+            node: Secondary(t[at]),
+            weight: t[at + 1],
+            least: t[at + 2],
+            greatest: t[at + 3],
+        };
+        let right = SecondaryArm {
+            node: Secondary(t[at + 4]),
+            weight: t[at + 5],
+            least: t[at + 6],
+            greatest: t[at + 7],
+        };
+        SecondaryRecord { left, right }
     }
 
     // The record of the inner node of that name, in the level whose records begin at base.

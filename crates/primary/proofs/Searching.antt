@@ -2,7 +2,7 @@
 -- the visits and of the depth. Assumes nothing.
 use Prim.Native.Nat.{ℕ, _+_, _*_, _≤_, _<_}
 use mathlib.Core.Path.{_≡_, refl, sym, ap, subst, _∙_}
-use mathlib.Core.Bool.{Bool}
+use mathlib.Core.Bool.{Bool, false}
 use mathlib.Core.List.{List, [], _∷_, map}
 use mathlib.Core.Option.{Option, none, some}
 use native.Mathlib.Omega.{arith}
@@ -13,7 +13,7 @@ use borrow.Author.Tests.{eq-eqb}
 use Rattle.model.specs.Lists.{countIf, filterBy, sort}
 use Rattle.model.specs.Sizes.{D}
 use Rattle.model.specs.Tree.{weight, depth, marks, marksOf}
-use Rattle.model.specs.Sheet.{Mark, Box, same, holds, belowX, Main, main}
+use Rattle.model.specs.Sheet.{Mark, Box, boxCrossed, same, holds, belowX, Main, main}
 use Rattle.model.specs.Laws.{SameBag}
 use Rattle.model.proofs.Logic.{by-cases}
 use Rattle.model.proofs.Lists.{countIf-length, sameBag-length, sort-countIf, filterBy-length}
@@ -78,11 +78,11 @@ module _ (xs : List ℕ) where
       let g = k .1 .main in
       find-absent (slotMark xs) (capacityOf xs) xs t (k .0) g (omega (arith, held-shallow g (r .balanced) small)) m n
 
-  count-of : (o : Option SlotMain) → HoldsTree xs o → TreeByRules xs o → capacityOf xs ≤ 65536 → (b : Box)
+  count-of : (o : Option SlotMain) → HoldsTree xs o → TreeByRules xs o → capacityOf xs ≤ 65536 → (b : Box) → boxCrossed b ≡ false
       → slotMain (slotMark xs) .count b o .visits ≤ mostVisits
       → mainCount♯ xs b ≡ pack (slotMain (slotMark xs) .count b o .found) (slotMain (slotMark xs) .count b o .visits)
-  count-of none k r small b n = count-none xs b k
-  count-of (some t) k r small b n = count-main-holds (slotMark xs) (capacityOf xs) xs t (k .0) (k .1) r small refl b n
+  count-of none k r small b fine n = count-none xs b k
+  count-of (some t) k r small b fine n = count-main-holds (slotMark xs) (capacityOf xs) xs t (k .0) (k .1) r small refl b fine n
 
   -- the slots that a listing meets
   metOf : Box → Option SlotMain → List ℕ
@@ -171,9 +171,9 @@ module _ (xs : List ℕ) (T : Main) (h : Holding xs T) where
     stands-found : slotMain (slotMark xs) .count b (h .slots) ≡ main .count b T
     stands-found = stands-count (slotMark xs) b (h .slots) ∙ ap (main .count b) (h .stands)
 
-    pub count-sound : mainCount♯ xs b ≡ pack (main .count b T .found) (main .count b T .visits)
-    count-sound =
-        count-of xs (h .slots) (h .holds) (h .rules) holding-small b (subst (λ a. a .visits ≤ mostVisits) (sym stands-found) count-most)
+    pub count-sound : boxCrossed b ≡ false → mainCount♯ xs b ≡ pack (main .count b T .found) (main .count b T .visits)
+    count-sound fine =
+        count-of xs (h .slots) (h .holds) (h .rules) holding-small b fine (subst (λ a. a .visits ≤ mostVisits) (sym stands-found) count-most)
         ∙ ap (λ a. pack (a .found) (a .visits)) stands-found
 
     -- the list

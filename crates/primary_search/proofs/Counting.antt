@@ -12,7 +12,7 @@ use Rattle.model.specs.Axis.{onSide, cellClear}
 use Rattle.model.specs.Register.{Found, innermost}
 use Rattle.model.specs.Tree.{Tree, leaf, node, weight, depth, marks, least}
 use Rattle.model.specs.Search.{inside, clear, arrive, search}
-use Rattle.model.specs.Sheet.{Mark, Box, sheet, holds, alongX, alongY}
+use Rattle.model.specs.Sheet.{Mark, Box, boxCrossed, sheet, holds, alongX, alongY}
 use Rattle.model.specs.Slots.{slotSpace, slotAxis}
 use Rattle.model.specs.Laws.{AxisLaws, Sorted}
 use Rattle.model.proofs.Logic.{by-cases}
@@ -32,10 +32,10 @@ use Rattle.table.proofs.Tallies.{visited-pack, pack-visits}
 use Rattle.twofold.specs.Levels.{deeper}
 use Rattle.twofold.specs.Rules.{SlotAuxiliary, SlotMain, slotAuxiliary, slotMain, ByRules}
 use Rattle.twofold.specs.TwoFold.{TwoFold}
-use Rattle.nodes.proofs.Searching.{Taken, Laid, count-adds}
+use Rattle.nodes.proofs.Searching.{straight-x, straight-y, Taken, Laid, count-adds}
 use Rattle.secondary_search.proofs.Counting.{Carries, searched, count-holds}
 use Rattle.secondary_search.proofs.Listing.{carriesBag-carries}
-use Rattle.primary_search.specs.Count.{handed♯, mainKind, mainSearch♯, countRoot, mainCount♯}
+use Rattle.primary_search.specs.Count.{leaf♯, handed♯, mainKind, mainSearch♯, countRoot, mainCount♯}
 use Rattle.twofold.proofs.Over.{deeper-level, top-level}
 use Rattle.primary_search.proofs.Ready.{ReadyNode, Ready, inside-settled, ready}
 
@@ -83,76 +83,89 @@ module _ (f : ℕ → Mark) (b : Box) where
     ordered = slotAxis-laws f sheet alongX alongX-laws
 
     abbrev TakenHere : ℕ → SlotMain → Type 0
-    TakenHere = Taken (mainKind xs C b) f b (slotAuxiliary f) ordered xs
+    TakenHere = Taken (mainKind xs C b) alongX b f (slotAuxiliary f) ordered xs
 
     abbrev LaidHere : ℕ → SlotMain → Type 0
-    LaidHere = Laid (mainKind xs C b) f b (slotAuxiliary f) ordered xs
+    LaidHere = Laid (mainKind xs C b) alongX b f (slotAuxiliary f) ordered xs
 
     -- the arrival at a leaf, and at a node whose cell is inside
+    leaf-adds : (s : ℕ) → slotMark xs s ≡ f s → (k v : ℕ) → k + indicator (holds b (f s)) ≤ 65536 → v + 1 ≤ mostVisits
+        → leaf♯ xs b s (pack k v) ≡ pack (k + indicator (holds b (f s))) (v + 1)
+    unfolding leaf♯
+    leaf-adds s e k v hk hv =
+        rw e
+        (by-cases (holds b (f s))
+        (λ u. rw (u, visited-pack k v 1 (omega arith) (omega arith)))
+        (λ u. rw (u, visited-pack k v 0 (omega arith) (omega arith))))
+
     taken-leaf : (base s : ℕ) → slotMark xs s ≡ f s → TakenHere base (leaf s)
     unfolding handed♯
     taken-leaf base s e t k v room =
         let even : (2 * s) % 2 ≡ 0 = omega arith in
         let half : (2 * s) / 2 ≡ s = omega arith in
-        rw (eq-eqb ((2 * s) % 2) 0 even, half, e)
-        (by-cases (holds b (f s))
-        (λ u. rw (u, visited-pack k v 1 (omega arith) (omega arith)))
-        (λ u. rw (u, visited-pack k v 0 (omega arith) (omega arith))))
+        rw (eq-eqb ((2 * s) % 2) 0 even, half) (leaf-adds s e k v (room .0) (room .1))
 
-    handed-node : (d : ℕ) (i : SlotAuxiliary) (l r : SlotMain) → ReadyNode f C xs d i l r → inside (slotAxis f alongX) b (node i l r) ≡ true
-        → (k v : ℕ) → k + slotAuxiliary f .count b i .found ≤ 65536 → v + (slotAuxiliary f .count b i .visits + 1) ≤ mostVisits
-        → handed♯ xs b (levelPlace C d) (2 * least r + 1) (pack k v)
-        ≡ pack (k + slotAuxiliary f .count b i .found) (v + (slotAuxiliary f .count b i .visits + 1))
-    unfolding handed♯
-    handed-node d i l r h e k v hk hv =
-        let odd : ((2 * least r + 1) % 2 ≡ 0 → ⊥) = omega arith in
-        let half : (2 * least r + 1) / 2 ≡ least r = omega arith in
-        let z : k + 0 ≡ k = omega arith in
-        let a = h .auxiliary in
-        let u = a .tree in
-        let hk′ = (rw (a .is) at hk) in
-        let hv′ = (rw (a .is) at hv) in
-        rw (
-          ne-eqb ((2 * least r + 1) % 2) 0 odd,
-          half,
-          a .arm,
-          a .is,
-          visited-pack k v 0 (omega arith) (omega arith),
-          z,
-          count-holds f b (levelPlace C d) xs u (a .records) (carriesBag-carries u (a .carries)) (inside-settled f C xs b d i l r h e) (a .sorted)
-              (a .shallow) k (v + 1) (omega arith) (omega arith),
-        ) (omega arith)
+    module _ (fine : boxCrossed b ≡ false) where
+      handed-node : (d : ℕ) (i : SlotAuxiliary) (l r : SlotMain) → ReadyNode f C xs d i l r → inside (slotAxis f alongX) b (node i l r) ≡ true
+          → (k v : ℕ) → k + slotAuxiliary f .count b i .found ≤ 65536 → v + (slotAuxiliary f .count b i .visits + 1) ≤ mostVisits
+          → handed♯ xs b (levelPlace C d) (2 * least r + 1) (pack k v)
+          ≡ pack (k + slotAuxiliary f .count b i .found) (v + (slotAuxiliary f .count b i .visits + 1))
+      unfolding handed♯
+      handed-node d i l r h e k v hk hv =
+          let odd : ((2 * least r + 1) % 2 ≡ 0 → ⊥) = omega arith in
+          let half : (2 * least r + 1) / 2 ≡ least r = omega arith in
+          let z : k + 0 ≡ k = omega arith in
+          let a = h .auxiliary in
+          let u = a .tree in
+          let hk′ = (rw (a .is) at hk) in
+          let hv′ = (rw (a .is) at hv) in
+          rw (
+            ne-eqb ((2 * least r + 1) % 2) 0 odd,
+            half,
+            a .arm,
+            a .is,
+            visited-pack k v 0 (omega arith) (omega arith),
+            z,
+            count-holds f b (levelPlace C d) xs (straight-y b fine) u (a .records) (carriesBag-carries u (a .carries)) (inside-settled f C xs b d i l r h e) (a .sorted)
+                (a .shallow) k (v + 1) (omega arith) (omega arith),
+          ) (omega arith)
 
-    taken-node : (d : ℕ) (i : SlotAuxiliary) (l r : SlotMain) → ReadyNode f C xs d i l r → TakenHere (levelPlace C d) (node i l r)
-    taken-node d i l r h t k v room =
-        let hk = (rw t at room .0) in
-        let hv = (rw t at room .1) in
-        rw t (handed-node d i l r h t k v hk hv)
+      taken-node : (d : ℕ) (i : SlotAuxiliary) (l r : SlotMain) → ReadyNode f C xs d i l r → TakenHere (levelPlace C d) (node i l r)
+      taken-node d i l r h t k v room =
+          let hk = (rw t at room .0) in
+          let hv = (rw t at room .1) in
+          rw t (handed-node d i l r h t k v hk hv)
 
-    module _ (small : C ≤ 65536) where
-      laid : (d : ℕ) (t : SlotMain) → d + depth t ≤ 38 → Ready f C xs d t → LaidHere (levelPlace C d) t
-      laid d (leaf s) e h = taken-leaf (levelPlace C d) s h
-      laid d (node i l r) e h = (
-        h .0 .children,
-        taken-node d i l r (h .0),
-        subst (λ base. LaidHere base l) (sym (deeper-level C d small (omega arith))) (laid (suc d) l (omega arith) (h .1)),
-        subst (λ base. LaidHere base r) (sym (deeper-level C d small (omega arith))) (laid (suc d) r (omega arith) (h .2)),
-      )
+      module _ (small : C ≤ 65536) where
+        laid : (d : ℕ) (t : SlotMain) → d + depth t ≤ 38 → Ready f C xs d t → LaidHere (levelPlace C d) t
+        laid d (leaf s) e h = taken-leaf (levelPlace C d) s h
+        laid d (node i l r) e h = (
+          h .0 .children,
+          taken-node d i l r (h .0),
+          subst (λ base. LaidHere base l) (sym (deeper-level C d small (omega arith))) (laid (suc d) l (omega arith) (h .1)),
+          subst (λ base. LaidHere base r) (sym (deeper-level C d small (omega arith))) (laid (suc d) r (omega arith) (h .2)),
+        )
 
-      count-tree : (t : SlotMain) → depth t ≤ 38 → Ready f C xs 0 t → Sorted (slotAxis f alongX) (marks t) → searchedMain t .visits ≤ mostVisits
-          → searchedMain t .found ≤ 65536
-          → mainSearch♯ xs C b (levelPlace C 0) (armOf alongX f t) ≡ pack (searchedMain t .found) (searchedMain t .visits)
-      unfolding mainSearch♯
-      count-tree t d h s hv hk =
-          count-adds (mainKind xs C b) f b (slotAuxiliary f) ordered xs 40 (levelPlace C 0) t (omega arith) (omega arith) (laid 0 t (omega arith) h) s 0 0
-          (omega arith, omega arith) ∙ omega arith
+        count-tree : (t : SlotMain) → depth t ≤ 38 → Ready f C xs 0 t → Sorted (slotAxis f alongX) (marks t) → searchedMain t .visits ≤ mostVisits
+            → searchedMain t .found ≤ 65536
+            → mainSearch♯ xs C b (levelPlace C 0) (armOf alongX f t) ≡ pack (searchedMain t .found) (searchedMain t .visits)
+        unfolding mainSearch♯
+        count-tree (leaf s) d h o hv hk =
+            let even : (2 * s) % 2 ≡ 0 = omega arith in
+            let half : (2 * s) / 2 ≡ s = omega arith in
+            rw (eq-eqb ((2 * s) % 2) 0 even, half) (leaf-adds s h 0 0 (omega (arith, hk)) (omega (arith, hv)) ∙ omega arith)
+        count-tree (node i l r) d h s hv hk =
+            let odd : ((2 * least r + 1) % 2 ≡ 0 → ⊥) = omega arith in
+            rw (ne-eqb ((2 * least r + 1) % 2) 0 odd)
+            (count-adds (mainKind xs C b) alongX b f (slotAuxiliary f) ordered xs (straight-x b fine) (levelPlace C 0) (node i l r) (omega arith)
+            (laid 0 (node i l r) (omega arith) h) s 0 0 (omega arith, omega arith) ∙ omega arith)
 
 module _ (f : ℕ → Mark) (C : ℕ) (xs : List ℕ) where
   pub count-main-holds : (t : SlotMain) → armAt xs rootPlace ≡ armOf alongX f t → TwoFold f C 0 xs t → ByRules f t → C ≤ 65536
-      → getD xs capacityPlace 0 ≡ C → (b : Box) → slotMain f .count b (some t) .visits ≤ mostVisits
+      → getD xs capacityPlace 0 ≡ C → (b : Box) → boxCrossed b ≡ false → slotMain f .count b (some t) .visits ≤ mostVisits
       → mainCount♯ xs b ≡ pack (slotMain f .count b (some t) .found) (slotMain f .count b (some t) .visits)
   unfolding mainCount♯ countRoot
-  count-main-holds t root h k small c b hv =
+  count-main-holds t root h k small c b fine hv =
       let g = ready f C xs small 0 t h k in
       rw (c, root, ne-eqb (weight t) 0 (omega (arith, weight-pos t)), top-level C small)
-      (count-tree f b C xs small t (held-shallow (h .main) (k .balanced) small) g (k .sorted) hv (omega (arith, found-weight f b C xs 0 t g, held-weight (h .main))))
+      (count-tree f b C xs fine small t (held-shallow (h .main) (k .balanced) small) g (k .sorted) hv (omega (arith, found-weight f b C xs 0 t g, held-weight (h .main))))

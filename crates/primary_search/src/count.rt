@@ -1,10 +1,10 @@
 // Counting: the planner's inner loop. In an ordered tree the box's side begins in one child of a node and ends in one: the search goes down to the node
-// that it begins and ends in both children of, and from there beneath each of them with one end to look for.
+// where the two ends part, and from there beneath each child with one end to look for.
 ghost use mathlib.Core.Path.{_≡_};
 ghost use Rattle.model.specs.Sheet.{box};
 ghost use Rattle.geometry.specs.Values.{boxValue};
 ghost use Rattle.nodes.specs.Values.{primaryArm};
-ghost use Rattle.primary_search.specs.Count.{handed♯, mainLow♯, mainHigh♯, mainLowEnd♯, mainHighEnd♯, mainAcross♯, mainSearch♯, mainCount♯};
+ghost use Rattle.primary_search.specs.Count.{leaf♯, handOver♯, handed♯, mainLow♯, mainHigh♯, mainLowEnd♯, mainHighEnd♯, mainOpened♯, mainSearch♯, mainCount♯};
 use geometry::Box;
 use nodes::primary::Primary;
 use nodes::primary::PrimaryArm;
@@ -15,20 +15,40 @@ use table::slots;
 use table::tally;
 use twofold::levels;
 
-// The arrival at a node of that number whose cell is inside the box's side: a leaf counts if the box holds its mark, an inner node hands over to its
-// auxiliary tree.
+// The arrival at the leaf of slot s.
+fn leaf(t: &[u32], b: Box, s: u32, tally: u64) -> u64
+    ensures { λ r. ⌜ r ≡ leaf♯ (now (t .entry)) (boxValue b) s tally ⌝ }
+{
+    if b.holds(slots::mark_at(t, s)) {
+        return tally::visit(tally, 1);
+    }
+    tally::visit(tally, 0)
+}
+
+// The arrival at the inner node named s, which hands over to its auxiliary tree. That is searched by y alone: the ends of the side are handed on as numbers, which
+// stay in registers, where a Box would be copied to memory for each walk.
+fn hand_over(t: &[u32], base: u32, y1: u32, y2: u32, s: u32, tally: u64) -> u64
+    ensures { λ r. ⌜ r ≡ handOver♯ (now (t .entry)) (box 0 0 y1 y2) base s tally ⌝ }
+{
+    let root = PrimaryRecord::auxiliary(t, s);
+    let side = Box {
+        x1: 0,
+        x2: 0,
+        y1,
+        y2,
+    };
+    secondary_search::count::count(t, base, side, root, tally::visit(tally, 0))
+}
+
+// The arrival at a node of that number whose cell is inside the box's side.
 fn handed(t: &[u32], base: u32, b: Box, node: Primary, tally: u64) -> u64
     ensures { λ r. ⌜ r ≡ handed♯ (now (t .entry)) (boxValue b) base (node .0) tally ⌝ }
 {
     let s = node.slot();
     if node.is_leaf() {
-        if b.holds(slots::mark_at(t, s)) {
-            return tally::visit(tally, 1);
-        }
-        return tally::visit(tally, 0);
+        return leaf(t, b, s, tally);
     }
-    let root = PrimaryRecord::auxiliary(t, s);
-    secondary_search::count::count(t, base, b, root, tally::visit(tally, 0))
+    hand_over(t, base, b.y1, b.y2, s, tally)
 }
 
 // Beneath a node in which the side begins, and which ends on it; its level begins at `level`.
@@ -44,7 +64,7 @@ fn from_low(t: &[u32], level: u32, capacity: u32, b: Box, start: Primary, from: 
         if PrimaryRecord::is_missing(t, node / 2) {
             return tally::LOST;
         }
-        let p = PrimaryRecord::at(t, node / 2);
+        let p = PrimaryRecord::present(t, node / 2);
         let l = p.left;
         let r = p.right;
         let x = l.node;
@@ -79,7 +99,7 @@ fn to_high(t: &[u32], level: u32, capacity: u32, b: Box, start: Primary, from: u
         if PrimaryRecord::is_missing(t, node / 2) {
             return tally::LOST;
         }
-        let p = PrimaryRecord::at(t, node / 2);
+        let p = PrimaryRecord::present(t, node / 2);
         let l = p.left;
         let r = p.right;
         let x = l.node;
@@ -101,11 +121,14 @@ fn to_high(t: &[u32], level: u32, capacity: u32, b: Box, start: Primary, from: u
     tally::LOST
 }
 
-// The arrival at a tree that ends on the side, and at one that begins on it.
+// The arrival at a tree that ends no later than the side, and at one that begins no earlier.
 fn low_end(t: &[u32], base: u32, capacity: u32, b: Box, a: PrimaryArm, tally: u64) -> u64
     ensures { λ r. ⌜ r ≡ mainLowEnd♯ (now (t .entry)) capacity (boxValue b) base (primaryArm a) tally ⌝ }
 {
     let n = a.node;
+    if b.before_x(a.greatest) {
+        return tally::visit(tally, 0);
+    }
     if b.before_x(a.least) {
         return from_low(t, base, capacity, b, n, tally::visit(tally, 0));
     }
@@ -116,70 +139,67 @@ fn high_end(t: &[u32], base: u32, capacity: u32, b: Box, a: PrimaryArm, tally: u
     ensures { λ r. ⌜ r ≡ mainHighEnd♯ (now (t .entry)) capacity (boxValue b) base (primaryArm a) tally ⌝ }
 {
     let n = a.node;
+    if b.past_x(a.least) {
+        return tally::visit(tally, 0);
+    }
     if b.past_x(a.greatest) {
         return to_high(t, base, capacity, b, n, tally::visit(tally, 0));
     }
     handed(t, base, b, n, tally)
 }
 
-// Beneath a node whose left child ends on the side and whose right child begins on it.
-fn across(t: &[u32], level: u32, capacity: u32, b: Box, node: Primary, tally: u64) -> u64
-    ensures { λ r. ⌜ r ≡ mainAcross♯ (now (t .entry)) capacity (boxValue b) level (node .0) tally ⌝ }
-{
-    let p = PrimaryRecord::at(t, node.slot());
-    let l = p.left;
-    let r = p.right;
-    let base = levels::deeper(level, capacity);
-    high_end(
-        t,
-        base,
-        capacity,
-        b,
-        r,
-        low_end(t, base, capacity, b, l, tally),
-    )
-}
-
-// The arrival at a tree of the level that begins at `level`.
-fn search(t: &[u32], level: u32, capacity: u32, b: Box, root: PrimaryArm) -> u64
-    ensures { λ r. ⌜ r ≡ mainSearch♯ (now (t .entry)) capacity (boxValue b) level (primaryArm root) ⌝ }
+// Beneath a node whose cell is neither inside the side nor clear of it; its level begins at `level`. Where the right child begins before the side, the left one
+// is clear of it; where the left child ends past the side, the right one is.
+fn opened(t: &[u32], level: u32, capacity: u32, b: Box, start: Primary, from: u64) -> u64
+    ensures { λ r. ⌜ r ≡ mainOpened♯ (now (t .entry)) capacity (boxValue b) level (start .0) from ⌝ }
 {
     let mut base = level;
-    let mut a = root;
-    let mut tally = 0;
+    let mut node = start.0;
+    let mut tally = from;
     let mut left = limits::DEEPEST;
     while 0 < left {
         left -= 1;
-        let n = a.node;
-        if b.inside_x(a.least, a.greatest) {
-            return handed(t, base, b, n, tally);
-        }
-        tally = tally::visit(tally, 0);
-        if b.clear_x(a.least, a.greatest) {
-            return tally;
-        }
-        if PrimaryRecord::is_missing(t, n.0 / 2) {
+        if PrimaryRecord::is_missing(t, node / 2) {
             return tally::LOST;
         }
-        let p = PrimaryRecord::at(t, n.0 / 2);
+        let p = PrimaryRecord::present(t, node / 2);
         let l = p.left;
         let r = p.right;
-        let next = levels::deeper(base, capacity);
-        if b.before_x(l.greatest) {
-            tally = tally::visit(tally, 0);
-            base = next;
-            a = r;
+        let x = l.node;
+        let y = r.node;
+        base = levels::deeper(base, capacity);
+        if b.before_x(r.least) {
+            tally = tally::visit(tally::visit(tally, 0), 0);
+            node = y.0;
         } else {
-            if b.past_x(r.least) {
-                tally = tally::visit(tally, 0);
-                base = next;
-                a = l;
+            if b.past_x(l.greatest) {
+                tally = tally::visit(tally::visit(tally, 0), 0);
+                node = x.0;
             } else {
-                return across(t, base, capacity, b, n, tally);
+                let low = low_end(t, base, capacity, b, l, tally);
+                return high_end(t, base, capacity, b, r, low);
             }
         }
     }
     tally::LOST
+}
+
+// The arrival at the root, whose level begins at `level`.
+fn search(t: &[u32], level: u32, capacity: u32, b: Box, root: PrimaryArm) -> u64
+    ensures { λ r. ⌜ r ≡ mainSearch♯ (now (t .entry)) capacity (boxValue b) level (primaryArm root) ⌝ }
+{
+    let n = root.node;
+    let s = n.slot();
+    if n.is_leaf() {
+        return leaf(t, b, s, 0);
+    }
+    if b.inside_x(root.least, root.greatest) {
+        return hand_over(t, level, b.y1, b.y2, s, 0);
+    }
+    if b.clear_x(root.least, root.greatest) {
+        return tally::visit(0, 0);
+    }
+    opened(t, level, capacity, b, n, tally::visit(0, 0))
 }
 
 // The marks of the table that the box of these sides holds, with the visits. More visits than limits::MOST: the words hold no tree. (Numbers in place of a

@@ -185,11 +185,11 @@ module _ (b : Box) (xs first second : List ℕ) where
 
     -- a tally that no sound table gives
     lost-unsound : (mostVisits < mainCount♯ (own xs) b % 4294967296) ⊎ (65536 < mainCount♯ (own xs) b / 4294967296) → SoundTable (own xs) → ⊥
-    lost-unsound (inl h) k = omega (arith, visits-sound xs b (k .tree) (k .holding), count-most (own xs) (k .tree) (k .holding) b)
+    lost-unsound (inl h) k = omega (arith, visits-sound xs b fine (k .tree) (k .holding), count-most (own xs) (k .tree) (k .holding) b)
     lost-unsound (inr h) k =
         omega (
           arith,
-          found-sound xs b (k .tree) (k .holding),
+          found-sound xs b fine (k .tree) (k .holding),
           countIf-length (holds b) (marksOf (k .tree)),
           holding-within (own xs) (k .tree) (k .holding),
           holding-small (own xs) (k .tree) (k .holding),
@@ -210,7 +210,7 @@ module _ (b : Box) (xs first second : List ℕ) where
         (unsound refl wrong)
     own-performs (short visits h) sf ss =
         refused-later call (lends xs first second) 10 (mainCount♯ (own xs) b / 4294967296) (omega arith) (refl, refl)
-        (λ T k. short-answer (mainCount♯ (own xs) b / 4294967296) h T (found-sound xs b T k ∙ sym (filterBy-length (holds b) (marksOf T))))
+        (λ T k. short-answer (mainCount♯ (own xs) b / 4294967296) h T (found-sound xs b fine T k ∙ sym (filterBy-length (holds b) (marksOf T))))
         no-row (performs.short h)
     own-performs {first′ = first′} {second′ = second′} (lists {f = f} few p q done) sf ss =
         let k = mainCount♯ (own xs) b / 4294967296 in
@@ -222,7 +222,7 @@ module _ (b : Box) (xs first second : List ℕ) where
         (performs-kept call xs first second first′ second′ (listedIn (whichList (length l)) l v) (refl, refl) (λ z. absurd (z no-row))
         (λ z. performs.lists (rw many p) (rw many q)) (listed-leaves b k xs first second first′ second′ p q sf ss (done .long) (done .sorted)) (λ z. tt)
         (λ T h. (
-          listed-answers b k xs first second first′ second′ p q sf ss (done .long) (done .sorted) T h (found-sound xs b T h) fine,
+          listed-answers b k xs first second first′ second′ p q sf ss (done .long) (done .sorted) T h (found-sound xs b fine T h) fine,
           list-keeps b (length first) (length second) (stateOf xs T),
         )))
 

@@ -36,15 +36,15 @@ pack-visits k v h = omega arith
 pub pack-found : (k v : ℕ) → v < 4294967296 → pack k v / 4294967296 ≡ k
 pack-found k v h = omega arith
 
-module _ (xs : List ℕ) (b : Box) (T : Main) (h : Holding (own xs) T) where
+module _ (xs : List ℕ) (b : Box) (fine : boxCrossed b ≡ false) (T : Main) (h : Holding (own xs) T) where
   pub visits-sound : mainCount♯ (own xs) b % 4294967296 ≡ main .count b T .visits
   visits-sound =
-      ap (λ t. t % 4294967296) (count-sound (own xs) T h b)
+      ap (λ t. t % 4294967296) (count-sound (own xs) T h b fine)
       ∙ pack-visits (main .count b T .found) (main .count b T .visits) (omega (arith, count-most (own xs) T h b))
 
   pub found-sound : mainCount♯ (own xs) b / 4294967296 ≡ countIf (holds b) (marksOf T)
   found-sound =
-      ap (λ t. t / 4294967296) (count-sound (own xs) T h b)
+      ap (λ t. t / 4294967296) (count-sound (own xs) T h b fine)
       ∙ pack-found (main .count b T .found) (main .count b T .visits) (omega (arith, count-most (own xs) T h b)) ∙ count-plain (own xs) T h b
 
 -- reading leaves the state as it is
@@ -70,7 +70,7 @@ module _ (b : Box) (xs : List ℕ) where
         let wrong : SoundTable (own xs) → ⊥ = λ k. omega (
           arith,
           ltb-true mostVisits (mainCount♯ (own xs) b % 4294967296) t,
-          visits-sound xs b (k .tree) (k .holding),
+          visits-sound xs b entered (k .tree) (k .holding),
           count-most (own xs) (k .tree) (k .holding) b,
         ) in
         rw t (refused-later (history.count b) (alone xs) 4 0 (omega arith) tt (λ T h. absurd (wrong (record { tree = T; holding = h }))) no-row
@@ -78,7 +78,7 @@ module _ (b : Box) (xs : List ℕ) where
         (λ f. rw f (performs-kept (history.count b) xs [] [] [] [] (counted (mainCount♯ (own xs) b / 4294967296) (mainCount♯ (own xs) b % 4294967296)) tt
         (λ z. absurd (z no-row)) (λ z. counts)
         (no-lists (counted (mainCount♯ (own xs) b / 4294967296) (mainCount♯ (own xs) b % 4294967296)) xs xs [] [] refl) (λ z. tt)
-        (λ T h. (rw entered (ap₂ counted (found-sound xs b T h) (visits-sound xs b T h)), count-keeps b (stateOf xs T)))))
+        (λ T h. (rw entered (ap₂ counted (found-sound xs b entered T h) (visits-sound xs b entered T h)), count-keeps b (stateOf xs T)))))
 
   pub count-performs : (a : Answer) → a ≡ count♯ b xs → Performs (history.count b) (alone xs) (alone xs) a
   unfolding count♯ countOwn♯ orNumber early enterBox

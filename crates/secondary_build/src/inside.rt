@@ -1,17 +1,16 @@
-// Words, marks, arms and records that the caller knows to be there: read and written without a test. What is not known so is read and written by the crates
-// `table` and `nodes`.
+// Words, marks and arms that the caller knows to be there: read and written without a test. What is not known so is read and written by the crates `table` and
+// `nodes`.
 ghost use mathlib.Core.Path.{_≡_};
 ghost use Prim.Native.Nat.{_+_, _*_, _<_, _≤_};
 ghost use lib.ListN.{length, getD, set};
 ghost use Rattle.geometry.specs.Values.{markValue};
-ghost use Rattle.table.specs.Layout.{recordPlace, runPlace};
+ghost use Rattle.table.specs.Layout.{runPlace};
 ghost use Rattle.table.specs.Marks.{slotMark};
-ghost use Rattle.nodes.specs.Arms.{armAt, putArm, recordAt};
-ghost use Rattle.nodes.specs.Values.{secondaryArm, secondaryRecord};
+ghost use Rattle.nodes.specs.Arms.{armAt, putArm};
+ghost use Rattle.nodes.specs.Values.{secondaryArm};
 use geometry::Mark;
 use nodes::secondary::Secondary;
 use nodes::secondary::SecondaryArm;
-use nodes::secondary::SecondaryRecord;
 
 // The word at i.
 pub fn word(t: &[u32], i: usize) -> u32
@@ -71,25 +70,4 @@ pub fn put_arm(t: &mut [u32], at: usize, a: SecondaryArm)
     t[at + 1] = a.weight;
     t[at + 2] = a.least;
     t[at + 3] = a.greatest;
-}
-
-// The record of the inner node of that name, in the level whose records begin at base.
-pub fn record_at(t: &[u32], base: u32, name: u32) -> SecondaryRecord
-    requires { ⌜ base + 8 * name + 8 ≤ length (now t) ⌝ }
-    ensures { λ r. ⌜ secondaryRecord r ≡ recordAt (now (t .entry)) (recordPlace base name) ⌝ }
-{
-    let at = (base as usize) + 8 * (name as usize);
-    let left = SecondaryArm {
-        node: Secondary(t[at]),
-        weight: t[at + 1],
-        least: t[at + 2],
-        greatest: t[at + 3],
-    };
-    let right = SecondaryArm {
-        node: Secondary(t[at + 4]),
-        weight: t[at + 5],
-        least: t[at + 6],
-        greatest: t[at + 7],
-    };
-    SecondaryRecord { left, right }
 }

@@ -1,6 +1,6 @@
 -- On words that hold an auxiliary tree whose slots are on the box's x side, the mirror of the count adds the model's count and visits. Assumes nothing.
 use Prim.Native.Nat.{ℕ, _+_, _≤_}
-use mathlib.Core.Path.{_≡_, _∙_}
+use mathlib.Core.Path.{_≡_, refl, _∙_}
 use mathlib.Core.Bool.{true, false}
 use mathlib.Core.List.{List}
 use native.Mathlib.Omega.{arith}
@@ -10,7 +10,7 @@ use Rattle.model.specs.Axis.{onSide, cellClear}
 use Rattle.model.specs.Register.{Found, innermost}
 use Rattle.model.specs.Tree.{Tree, leaf, node, weight, depth, marks}
 use Rattle.model.specs.Search.{search}
-use Rattle.model.specs.Sheet.{Mark, Box, sheet, holds, alongX, alongY}
+use Rattle.model.specs.Sheet.{Mark, Box, box, fromY1, toY2, sheet, holds, alongX, alongY}
 use Rattle.model.specs.Slots.{slotSpace, slotAxis}
 use Rattle.model.specs.Laws.{AxisLaws, All, cons, Sorted}
 use Rattle.model.proofs.Logic.{by-cases}
@@ -20,14 +20,20 @@ use Rattle.model.proofs.Slots.{slotAxis-laws}
 use Rattle.table.specs.Layout.{recordPlace}
 use Rattle.table.specs.Tally.{mostVisits, pack}
 use Rattle.table.proofs.Tallies.{visited-pack}
+use Rattle.nodes.specs.Arms.{Arm}
 use Rattle.nodes.specs.Holds.{armOf, Holds}
-use Rattle.nodes.proofs.Searching.{Taken, Laid, count-adds}
+use Rattle.nodes.proofs.Searching.{Straight, Taken, Laid, count-adds}
 use Rattle.secondary_search.specs.Count.{auxiliaryKind, count♯}
 
 -- each node carries as many slots as stand beneath it
 abbrev pub Carries : Tree ℕ (List ℕ) → Type 0
 Carries (leaf s) = Unit {0}
 Carries (node i l r) = (length i ≡ weight l + weight r) × Carries l × Carries r
+
+-- the count goes by the y side alone
+pub count-by-y : (xs : List ℕ) (b : Box) (base : ℕ) (a : Arm) (tally : ℕ) → count♯ xs (box 0 0 (b .y1) (b .y2)) base a tally ≡ count♯ xs b base a tally
+unfolding fromY1 toY2
+count-by-y xs b base a tally = refl
 
 -- a cell of one coordinate that is not inside the box's side is clear of it
 pub leaf-clear : (b : Box) (v : ℕ) → onSide alongY b v ≡ false → cellClear alongY b v v ≡ true
@@ -55,10 +61,10 @@ module _ (f : ℕ → Mark) (b : Box) where
 
   module _ (base : ℕ) (xs : List ℕ) where
     abbrev TakenHere : Tree ℕ (List ℕ) → Type 0
-    TakenHere = Taken auxiliaryKind f b (innermost (slotSpace f sheet)) ordered xs base
+    TakenHere = Taken auxiliaryKind alongY b f (innermost (slotSpace f sheet)) ordered xs base
 
     abbrev LaidHere : Tree ℕ (List ℕ) → Type 0
-    LaidHere = Laid auxiliaryKind f b (innermost (slotSpace f sheet)) ordered xs base
+    LaidHere = Laid auxiliaryKind alongY b f (innermost (slotSpace f sheet)) ordered xs base
 
     -- inside the side all that a tree weighs is found
     taken : (t : Tree ℕ (List ℕ)) → Carries t → Settled t → TakenHere t
@@ -77,8 +83,8 @@ module _ (f : ℕ → Mark) (b : Box) where
       laid r (h .2) (c .2) (all-right (marks l) (marks r) g),
     )
 
-    pub count-holds : (t : Tree ℕ (List ℕ)) → Holds alongY f (recordPlace base) xs t → Carries t → Settled t → Sorted (slotAxis f alongY) (marks t)
-        → depth t ≤ 38 → (k v : ℕ) → v + searched t .visits ≤ mostVisits → k + searched t .found ≤ 65536
+    pub count-holds : Straight alongY b → (t : Tree ℕ (List ℕ)) → Holds alongY f (recordPlace base) xs t → Carries t → Settled t
+        → Sorted (slotAxis f alongY) (marks t) → depth t ≤ 38 → (k v : ℕ) → v + searched t .visits ≤ mostVisits → k + searched t .found ≤ 65536
         → count♯ xs b base (armOf alongY f t) (pack k v) ≡ pack (k + searched t .found) (v + searched t .visits)
-    count-holds t h c g s d k v hv hk =
-        count-adds auxiliaryKind f b (innermost (slotSpace f sheet)) ordered xs 40 base t (omega arith) (omega arith) (laid t h c g) s k v (hk, hv)
+    count-holds fine t h c g s d k v hv hk =
+        count-adds auxiliaryKind alongY b f (innermost (slotSpace f sheet)) ordered xs fine base t (omega arith) (laid t h c g) s k v (hk, hv)

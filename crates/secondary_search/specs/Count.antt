@@ -6,26 +6,26 @@ use Rattle.model.specs.Sheet.{Box, alongY}
 use Rattle.table.specs.Layout.{recordPlace, deepest}
 use Rattle.table.specs.Tally.{visited}
 use Rattle.nodes.specs.Arms.{Arm}
-use Rattle.nodes.specs.Count.{Kind, lowFrom, highFrom, acrossLeft, acrossRight, across, countFrom}
+use Rattle.nodes.specs.Count.{Kind, sideAlong, lowFrom, highFrom, lowEnd, highEnd, openFrom, countTree}
 
 -- an auxiliary tree has all its records in one level
 abbrev pub auxiliaryKind : Kind
-auxiliaryKind = record { axis = alongY; place = recordPlace; deeper = λ base. base; take = λ base a tally. visited tally (a .weight) }
+auxiliaryKind = record { place = recordPlace; deeper = λ base. base; take = λ base a tally. visited tally (a .weight) }
 
 abbrev pub low♯ : List ℕ → Box → ℕ → ℕ → ℕ → ℕ
-low♯ xs b base n tally = lowFrom auxiliaryKind b xs deepest base n tally
+low♯ xs b base n tally = lowFrom auxiliaryKind (sideAlong alongY b) xs deepest base n tally
 
 abbrev pub high♯ : List ℕ → Box → ℕ → ℕ → ℕ → ℕ
-high♯ xs b base n tally = highFrom auxiliaryKind b xs deepest base n tally
+high♯ xs b base n tally = highFrom auxiliaryKind (sideAlong alongY b) xs deepest base n tally
 
 abbrev pub lowEnd♯ : List ℕ → Box → ℕ → Arm → ℕ → ℕ
-lowEnd♯ xs b base a tally = acrossLeft auxiliaryKind b xs base a tally
+lowEnd♯ xs b base a tally = lowEnd auxiliaryKind (sideAlong alongY b) xs base a tally
 
 abbrev pub highEnd♯ : List ℕ → Box → ℕ → Arm → ℕ → ℕ
-highEnd♯ xs b base a tally = acrossRight auxiliaryKind b xs base a tally
+highEnd♯ xs b base a tally = highEnd auxiliaryKind (sideAlong alongY b) xs base a tally
 
-abbrev pub across♯ : List ℕ → Box → ℕ → ℕ → ℕ → ℕ
-across♯ xs b base n tally = across auxiliaryKind b xs base n tally
+abbrev pub opened♯ : List ℕ → Box → ℕ → ℕ → ℕ → ℕ
+opened♯ xs b base n tally = openFrom auxiliaryKind (sideAlong alongY b) xs deepest base n tally
 
 abbrev pub count♯ : List ℕ → Box → ℕ → Arm → ℕ → ℕ
-count♯ xs b base a tally = countFrom auxiliaryKind b xs deepest base a tally
+count♯ xs b base a tally = countTree auxiliaryKind (sideAlong alongY b) xs base a tally

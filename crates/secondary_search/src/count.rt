@@ -1,9 +1,9 @@
 // Counting: the planner's inner loop. In an ordered tree the box's side begins in one child of a node and ends in one: the search goes down to the node
-// that it begins and ends in both children of, and from there beneath each of them with one end to look for.
+// where the two ends part, and from there beneath each child with one end to look for.
 ghost use mathlib.Core.Path.{_≡_};
 ghost use Rattle.geometry.specs.Values.{boxValue};
 ghost use Rattle.nodes.specs.Values.{secondaryArm};
-ghost use Rattle.secondary_search.specs.Count.{low♯, high♯, lowEnd♯, highEnd♯, across♯, count♯};
+ghost use Rattle.secondary_search.specs.Count.{low♯, high♯, lowEnd♯, highEnd♯, opened♯, count♯};
 use geometry::Box;
 use nodes::secondary::Secondary;
 use nodes::secondary::SecondaryArm;
@@ -23,7 +23,7 @@ fn from_low(t: &[u32], base: u32, b: Box, start: Secondary, from: u64) -> u64
         if SecondaryRecord::is_missing(t, base, node / 2) {
             return tally::LOST;
         }
-        let p = SecondaryRecord::at(t, base, node / 2);
+        let p = SecondaryRecord::present(t, base, node / 2);
         let l = p.left;
         let r = p.right;
         let x = l.node;
@@ -56,7 +56,7 @@ fn to_high(t: &[u32], base: u32, b: Box, start: Secondary, from: u64) -> u64
         if SecondaryRecord::is_missing(t, base, node / 2) {
             return tally::LOST;
         }
-        let p = SecondaryRecord::at(t, base, node / 2);
+        let p = SecondaryRecord::present(t, base, node / 2);
         let l = p.left;
         let r = p.right;
         let x = l.node;
@@ -77,10 +77,13 @@ fn to_high(t: &[u32], base: u32, b: Box, start: Secondary, from: u64) -> u64
     tally::LOST
 }
 
-// The arrival at a tree that ends on the side, and at one that begins on it.
+// The arrival at a tree that ends no later than the side, and at one that begins no earlier.
 fn low_end(t: &[u32], base: u32, b: Box, a: SecondaryArm, tally: u64) -> u64
     ensures { λ r. ⌜ r ≡ lowEnd♯ (now (t .entry)) (boxValue b) base (secondaryArm a) tally ⌝ }
 {
+    if b.before_y(a.greatest) {
+        return tally::visit(tally, 0);
+    }
     if b.before_y(a.least) {
         let n = a.node;
         return from_low(t, base, b, n, tally::visit(tally, 0));
@@ -91,6 +94,9 @@ fn low_end(t: &[u32], base: u32, b: Box, a: SecondaryArm, tally: u64) -> u64
 fn high_end(t: &[u32], base: u32, b: Box, a: SecondaryArm, tally: u64) -> u64
     ensures { λ r. ⌜ r ≡ highEnd♯ (now (t .entry)) (boxValue b) base (secondaryArm a) tally ⌝ }
 {
+    if b.past_y(a.least) {
+        return tally::visit(tally, 0);
+    }
     if b.past_y(a.greatest) {
         let n = a.node;
         return to_high(t, base, b, n, tally::visit(tally, 0));
@@ -98,50 +104,49 @@ fn high_end(t: &[u32], base: u32, b: Box, a: SecondaryArm, tally: u64) -> u64
     tally::visit(tally, a.weight)
 }
 
-// Beneath a node whose left child ends on the side and whose right child begins on it.
-fn across(t: &[u32], base: u32, b: Box, node: Secondary, tally: u64) -> u64
-    ensures { λ r. ⌜ r ≡ across♯ (now (t .entry)) (boxValue b) base (node .0) tally ⌝ }
+// Beneath a node whose cell is neither inside the side nor clear of it. Where the right child begins before the side, the left one is clear of it; where the
+// left child ends past the side, the right one is.
+fn opened(t: &[u32], base: u32, b: Box, start: Secondary, from: u64) -> u64
+    ensures { λ r. ⌜ r ≡ opened♯ (now (t .entry)) (boxValue b) base (start .0) from ⌝ }
 {
-    let p = SecondaryRecord::at(t, base, node.slot());
-    let l = p.left;
-    let r = p.right;
-    high_end(t, base, b, r, low_end(t, base, b, l, tally))
+    let mut node = start.0;
+    let mut tally = from;
+    let mut left = limits::DEEPEST;
+    while 0 < left {
+        left -= 1;
+        if SecondaryRecord::is_missing(t, base, node / 2) {
+            return tally::LOST;
+        }
+        let p = SecondaryRecord::present(t, base, node / 2);
+        let l = p.left;
+        let r = p.right;
+        let x = l.node;
+        let y = r.node;
+        if b.before_y(r.least) {
+            tally = tally::visit(tally::visit(tally, 0), 0);
+            node = y.0;
+        } else {
+            if b.past_y(l.greatest) {
+                tally = tally::visit(tally::visit(tally, 0), 0);
+                node = x.0;
+            } else {
+                return high_end(t, base, b, r, low_end(t, base, b, l, tally));
+            }
+        }
+    }
+    tally::LOST
 }
 
 // The marks of a tree on the box's side, and the visits, onto a tally.
 pub fn count(t: &[u32], base: u32, b: Box, root: SecondaryArm, from: u64) -> u64
     ensures { λ r. ⌜ r ≡ count♯ (now (t .entry)) (boxValue b) base (secondaryArm root) from ⌝ }
 {
-    let mut a = root;
-    let mut tally = from;
-    let mut left = limits::DEEPEST;
-    while 0 < left {
-        left -= 1;
-        if b.inside_y(a.least, a.greatest) {
-            return tally::visit(tally, a.weight);
-        }
-        tally = tally::visit(tally, 0);
-        if b.clear_y(a.least, a.greatest) {
-            return tally;
-        }
-        let n = a.node;
-        if SecondaryRecord::is_missing(t, base, n.0 / 2) {
-            return tally::LOST;
-        }
-        let p = SecondaryRecord::at(t, base, n.0 / 2);
-        let l = p.left;
-        let r = p.right;
-        if b.before_y(l.greatest) {
-            tally = tally::visit(tally, 0);
-            a = r;
-        } else {
-            if b.past_y(r.least) {
-                tally = tally::visit(tally, 0);
-                a = l;
-            } else {
-                return across(t, base, b, n, tally);
-            }
-        }
+    if b.inside_y(root.least, root.greatest) {
+        return tally::visit(from, root.weight);
     }
-    tally::LOST
+    if b.clear_y(root.least, root.greatest) {
+        return tally::visit(from, 0);
+    }
+    let n = root.node;
+    opened(t, base, b, n, tally::visit(from, 0))
 }

@@ -147,7 +147,7 @@ fn put_inside(
             return insert_beneath(t, base, at, m, s, false, left);
         }
         left -= 1;
-        let p = inside::record_at(t, base, name);
+        let p = SecondaryRecord::present(t, base, name);
         let l = p.left;
         let r = p.right;
         if weights::disagree(l.weight, r.weight, a.weight) {
@@ -204,7 +204,7 @@ fn insert_inside(
             return insert_beneath(t, base, at, m, s, true, left);
         }
         left -= 1;
-        let p = inside::record_at(t, base, name);
+        let p = SecondaryRecord::present(t, base, name);
         let l = p.left;
         let r = p.right;
         if weights::disagree(l.weight, r.weight, a.weight) {

@@ -186,7 +186,7 @@ fn strike_inside(
     if capacity <= name {
         return strike_anywhere(t, base, node, weight, m, s, fuel);
     }
-    let p = inside::record_at(t, base, name);
+    let p = SecondaryRecord::present(t, base, name);
     let left = p.left;
     let right = p.right;
     if weights::disagree(left.weight, right.weight, weight) {

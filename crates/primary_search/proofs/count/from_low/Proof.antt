@@ -2,16 +2,18 @@ use Prim.Native.Nat.{ℕ, _<_, _≤_}
 use mathlib.Core.Path.{_≡_}
 use native.Mathlib.Omega.{arith}
 use borrow.Author.Needs.{needs}
+use Rattle.model.specs.Sheet.{alongX}
 use Rattle.geometry.specs.Values.{boxValue}
 use Rattle.table.specs.Layout.{deepest}
-use Rattle.nodes.specs.Count.{lowRecord, lowNode, lowFrom, lowFrom-zero, lowFrom-suc}
+use Rattle.nodes.proofs.Missing.{present}
+use Rattle.nodes.specs.Count.{sideAlong, lowRecord, lowNode, lowFrom, lowFrom-zero, lowFrom-suc}
 use Rattle.primary_search.specs.Count.{mainKind}
 use Rattle.primary_search.proofs.count.from_low.Statement.{statement}
 use Rattle.primary_search.proofs.count.from_low.Tie as tie
 use Rattle.primary_search.proofs.count.from_low.Reads as reads
 use Rattle.primary_search.proofs.count.from_low.Lts as lts
 use Rattle.geometry.proofs.Box.before_x.Reads as before-x-reads
-use Rattle.nodes.proofs.primary.PrimaryRecord.at.Reads as at-reads
+use Rattle.nodes.proofs.primary.PrimaryRecord.present.Reads as present-reads
 use Rattle.nodes.proofs.primary.PrimaryRecord.is_missing.Reads as is-missing-reads
 use Rattle.primary_search.proofs.count.handed.Reads as handed-reads
 use Rattle.table.proofs.tally.visit.Reads as visit-reads
@@ -25,7 +27,7 @@ nothing n h = omega arith
 
 abbrev Inv-loop : tie.InvT-loop
 Inv-loop t level capacity b from base₀ node₀ tally₀ left₀ base node tally left =
-    (left ≤ deepest) × (lowFrom (mainKind t capacity (boxValue b)) (boxValue b) t left base node tally ≡ lowFrom (mainKind t capacity (boxValue b)) (boxValue b) t deepest level node₀ from)
+    (left ≤ deepest) × (lowFrom (mainKind t capacity (boxValue b)) (sideAlong alongX (boxValue b)) t left base node tally ≡ lowFrom (mainKind t capacity (boxValue b)) (sideAlong alongX (boxValue b)) t deepest level node₀ from)
 
 abbrev μ-loop : tie.MeasureT-loop
 μ-loop t level capacity b from base₀ node₀ tally₀ left₀ base node tally left = left
@@ -53,8 +55,8 @@ returns c = rw (
 )
 
 -- src/count.rt:47:13
-at-requires : tie.Need-at-requires Inv-loop μ-loop
-at-requires c κs = search needs
+present-requires : tie.Need-present-requires Inv-loop μ-loop
+present-requires c κs = present _ _ _ (c .before .is-missing .ensures) (c .if1 .left)
 
 -- src/count.rt:52:9
 deeper-requires : tie.Need-deeper-requires Inv-loop μ-loop
@@ -90,7 +92,7 @@ loop-again c = (
     lowFrom-suc _ _ _ _ (positive _ (c .before .before .before .before .before .before .before .before .before .before .before .before .before .before .loop-test .taken)),
     ← c .before .before .before .before .before .before .before .before .before .before .before .before .before .is-missing .ensures,
     c .before .before .before .before .before .before .before .before .before .before .before .before .if1 .left,
-    ← c .before .before .before .before .before .before .before .before .before .before .before .at .ensures,
+    ← c .before .before .before .before .before .before .before .before .before .before .before .present .ensures,
     ← c .before .before .before .before .before .before .deeper .ensures,
     ← c .before .before .before .before .before .before-x .ensures,
     c .before .before .before .before .if2 .taken,
@@ -113,7 +115,7 @@ returns-2 c = rw (
   lowFrom-suc _ _ _ _ (positive _ (c .before .before .before .before .before .before .before .before .before .before .before .before .before .before .loop-test .taken)),
   ← c .before .before .before .before .before .before .before .before .before .before .before .before .before .is-missing .ensures,
   c .before .before .before .before .before .before .before .before .before .before .before .before .if1 .left,
-  ← c .before .before .before .before .before .before .before .before .before .before .before .at .ensures,
+  ← c .before .before .before .before .before .before .before .before .before .before .before .present .ensures,
   ← c .before .before .before .before .before .before .deeper .ensures,
   ← c .before .before .before .before .before .before-x .ensures,
   c .before .before .before .before .if2 .taken,
@@ -145,7 +147,7 @@ loop-again-2 c = (
     lowFrom-suc _ _ _ _ (positive _ (c .before .before .before .before .before .before .before .before .before .before .before .before .loop-test .taken)),
     ← c .before .before .before .before .before .before .before .before .before .before .before .is-missing .ensures,
     c .before .before .before .before .before .before .before .before .before .before .if1 .left,
-    ← c .before .before .before .before .before .before .before .before .before .at .ensures,
+    ← c .before .before .before .before .before .before .before .before .before .present .ensures,
     ← c .before .before .before .before .deeper .ensures,
     ← c .before .before .before .before-x .ensures,
     c .before .before .if2 .left,
@@ -172,7 +174,7 @@ from-low-spec =
     sub-left
     is-missing-requires
     returns
-    at-requires
+    present-requires
     deeper-requires
     before-x-requires
     visit-requires

@@ -1,5 +1,4 @@
-use borrow.Author.Needs.{needs}
-use Rattle.nodes.specs.Count.{acrossRight}
+use Rattle.nodes.specs.Count.{highEnd}
 use borrow.Author.Needs.{needs}
 use Rattle.primary_search.proofs.count.high_end.Statement.{statement}
 use Rattle.primary_search.proofs.count.high_end.Tie as tie
@@ -10,42 +9,68 @@ use Rattle.primary_search.proofs.count.handed.Reads as handed-reads
 use Rattle.primary_search.proofs.count.to_high.Reads as to-high-reads
 use Rattle.table.proofs.tally.visit.Reads as visit-reads
 
--- src/count.rt:118:8
+-- src/count.rt:122:8
 past-x-requires : tie.Need-past-x-requires
 past-x-requires c κs = search needs
 
--- src/count.rt:119:51
+-- src/count.rt:123:9
 visit-requires : tie.Need-visit-requires
 visit-requires c κs = search needs
 
--- src/count.rt:119:9
+-- src/count.rt:123:9
+returns : tie.Need-returns
+unfolding highEnd
+returns c = rw (← c .before .before .past-x .ensures, c .before .if1 .taken, ← c .visit .ensures)
+
+-- src/count.rt:125:8
+past-x-requires-2 : tie.Need-past-x-requires-2
+past-x-requires-2 c κs = search needs
+
+-- src/count.rt:126:49
+visit-requires-2 : tie.Need-visit-requires-2
+visit-requires-2 c κs = search needs
+
+-- src/count.rt:126:9
 to-high-requires : tie.Need-to-high-requires
 to-high-requires c κs = search needs
 
--- src/count.rt:119:9
-returns : tie.Need-returns
-unfolding acrossRight
-returns c = rw (
-  ← c .before .before .before .past-x .ensures,
-  c .before .before .if1 .taken,
-  ← c .before .visit .ensures,
+-- src/count.rt:126:9
+returns-2 : tie.Need-returns-2
+unfolding highEnd
+returns-2 c = rw (
+  ← c .before .before .before .before .before .past-x .ensures,
+  c .before .before .before .before .if1 .left,
+  ← c .before .before .before .past-x2 .ensures,
+  c .before .before .if2 .taken,
+  ← c .before .visit2 .ensures,
   ← c .to-high .ensures,
 )
 
--- src/count.rt:121:5
+-- src/count.rt:128:5
 handed-requires : tie.Need-handed-requires
 handed-requires c κs = search needs
 
--- src/count.rt:114:1
-returns-2 : tie.Need-returns-2
-unfolding acrossRight
-returns-2 c = rw (
-  ← c .before .before .past-x .ensures,
-  c .before .if1 .left,
+-- src/count.rt:118:1
+returns-3 : tie.Need-returns-3
+unfolding highEnd
+returns-3 c = rw (
+  ← c .before .before .before .before .past-x .ensures,
+  c .before .before .before .if1 .left,
+  ← c .before .before .past-x2 .ensures,
+  c .before .if2 .left,
   ← c .handed .ensures,
 )
 
 pub high-end-spec : {M : Type 1} → statement M
 high-end-spec =
     tie.close
-    (tie.spec past-x-requires visit-requires to-high-requires returns handed-requires returns-2)
+    (tie.spec
+    past-x-requires
+    visit-requires
+    returns
+    past-x-requires-2
+    visit-requires-2
+    to-high-requires
+    returns-2
+    handed-requires
+    returns-3)

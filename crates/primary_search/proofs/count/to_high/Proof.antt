@@ -2,16 +2,18 @@ use Prim.Native.Nat.{ℕ, _<_, _≤_}
 use mathlib.Core.Path.{_≡_}
 use native.Mathlib.Omega.{arith}
 use borrow.Author.Needs.{needs}
+use Rattle.model.specs.Sheet.{alongX}
 use Rattle.geometry.specs.Values.{boxValue}
 use Rattle.table.specs.Layout.{deepest}
-use Rattle.nodes.specs.Count.{highRecord, highNode, highFrom, highFrom-zero, highFrom-suc}
+use Rattle.nodes.proofs.Missing.{present}
+use Rattle.nodes.specs.Count.{sideAlong, highRecord, highNode, highFrom, highFrom-zero, highFrom-suc}
 use Rattle.primary_search.specs.Count.{mainKind}
 use Rattle.primary_search.proofs.count.to_high.Statement.{statement}
 use Rattle.primary_search.proofs.count.to_high.Tie as tie
 use Rattle.primary_search.proofs.count.to_high.Reads as reads
 use Rattle.primary_search.proofs.count.to_high.Lts as lts
 use Rattle.geometry.proofs.Box.past_x.Reads as past-x-reads
-use Rattle.nodes.proofs.primary.PrimaryRecord.at.Reads as at-reads
+use Rattle.nodes.proofs.primary.PrimaryRecord.present.Reads as present-reads
 use Rattle.nodes.proofs.primary.PrimaryRecord.is_missing.Reads as is-missing-reads
 use Rattle.primary_search.proofs.count.handed.Reads as handed-reads
 use Rattle.table.proofs.tally.visit.Reads as visit-reads
@@ -25,7 +27,7 @@ nothing n h = omega arith
 
 abbrev Inv-loop : tie.InvT-loop
 Inv-loop t level capacity b from base₀ node₀ tally₀ left₀ base node tally left =
-    (left ≤ deepest) × (highFrom (mainKind t capacity (boxValue b)) (boxValue b) t left base node tally ≡ highFrom (mainKind t capacity (boxValue b)) (boxValue b) t deepest level node₀ from)
+    (left ≤ deepest) × (highFrom (mainKind t capacity (boxValue b)) (sideAlong alongX (boxValue b)) t left base node tally ≡ highFrom (mainKind t capacity (boxValue b)) (sideAlong alongX (boxValue b)) t deepest level node₀ from)
 
 abbrev μ-loop : tie.MeasureT-loop
 μ-loop t level capacity b from base₀ node₀ tally₀ left₀ base node tally left = left
@@ -53,8 +55,8 @@ returns c = rw (
 )
 
 -- src/count.rt:82:13
-at-requires : tie.Need-at-requires Inv-loop μ-loop
-at-requires c κs = search needs
+present-requires : tie.Need-present-requires Inv-loop μ-loop
+present-requires c κs = present _ _ _ (c .before .is-missing .ensures) (c .if1 .left)
 
 -- src/count.rt:87:9
 deeper-requires : tie.Need-deeper-requires Inv-loop μ-loop
@@ -90,7 +92,7 @@ loop-again c = (
     highFrom-suc _ _ _ _ (positive _ (c .before .before .before .before .before .before .before .before .before .before .before .before .before .before .loop-test .taken)),
     ← c .before .before .before .before .before .before .before .before .before .before .before .before .before .is-missing .ensures,
     c .before .before .before .before .before .before .before .before .before .before .before .before .if1 .left,
-    ← c .before .before .before .before .before .before .before .before .before .before .before .at .ensures,
+    ← c .before .before .before .before .before .before .before .before .before .before .before .present .ensures,
     ← c .before .before .before .before .before .before .deeper .ensures,
     ← c .before .before .before .before .before .past-x .ensures,
     c .before .before .before .before .if2 .taken,
@@ -113,7 +115,7 @@ returns-2 c = rw (
   highFrom-suc _ _ _ _ (positive _ (c .before .before .before .before .before .before .before .before .before .before .before .before .before .before .loop-test .taken)),
   ← c .before .before .before .before .before .before .before .before .before .before .before .before .before .is-missing .ensures,
   c .before .before .before .before .before .before .before .before .before .before .before .before .if1 .left,
-  ← c .before .before .before .before .before .before .before .before .before .before .before .at .ensures,
+  ← c .before .before .before .before .before .before .before .before .before .before .before .present .ensures,
   ← c .before .before .before .before .before .before .deeper .ensures,
   ← c .before .before .before .before .before .past-x .ensures,
   c .before .before .before .before .if2 .taken,
@@ -145,7 +147,7 @@ loop-again-2 c = (
     highFrom-suc _ _ _ _ (positive _ (c .before .before .before .before .before .before .before .before .before .before .before .before .loop-test .taken)),
     ← c .before .before .before .before .before .before .before .before .before .before .before .is-missing .ensures,
     c .before .before .before .before .before .before .before .before .before .before .if1 .left,
-    ← c .before .before .before .before .before .before .before .before .before .at .ensures,
+    ← c .before .before .before .before .before .before .before .before .before .present .ensures,
     ← c .before .before .before .before .deeper .ensures,
     ← c .before .before .before .past-x .ensures,
     c .before .before .if2 .left,
@@ -172,7 +174,7 @@ to-high-spec =
     sub-left
     is-missing-requires
     returns
-    at-requires
+    present-requires
     deeper-requires
     past-x-requires
     visit-requires

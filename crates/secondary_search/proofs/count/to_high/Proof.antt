@@ -2,16 +2,18 @@ use Prim.Native.Nat.{ℕ, _<_, _≤_}
 use mathlib.Core.Path.{_≡_}
 use native.Mathlib.Omega.{arith}
 use borrow.Author.Needs.{needs}
+use Rattle.model.specs.Sheet.{alongY}
 use Rattle.geometry.specs.Values.{boxValue}
 use Rattle.table.specs.Layout.{deepest}
-use Rattle.nodes.specs.Count.{highRecord, highNode, highFrom, highFrom-zero, highFrom-suc}
+use Rattle.nodes.proofs.Missing.{present}
+use Rattle.nodes.specs.Count.{sideAlong, highRecord, highNode, highFrom, highFrom-zero, highFrom-suc}
 use Rattle.secondary_search.specs.Count.{auxiliaryKind}
 use Rattle.secondary_search.proofs.count.to_high.Statement.{statement}
 use Rattle.secondary_search.proofs.count.to_high.Tie as tie
 use Rattle.secondary_search.proofs.count.to_high.Reads as reads
 use Rattle.secondary_search.proofs.count.to_high.Lts as lts
 use Rattle.geometry.proofs.Box.past_y.Reads as past-y-reads
-use Rattle.nodes.proofs.secondary.SecondaryRecord.at.Reads as at-reads
+use Rattle.nodes.proofs.secondary.SecondaryRecord.present.Reads as present-reads
 use Rattle.nodes.proofs.secondary.SecondaryRecord.is_missing.Reads as is-missing-reads
 use Rattle.table.proofs.tally.visit.Reads as visit-reads
 
@@ -23,7 +25,7 @@ nothing n h = omega arith
 
 abbrev Inv-loop : tie.InvT-loop
 Inv-loop t base b from node₀ tally₀ left₀ node tally left =
-    (left ≤ deepest) × (highFrom auxiliaryKind (boxValue b) t left base node tally ≡ highFrom auxiliaryKind (boxValue b) t deepest base node₀ from)
+    (left ≤ deepest) × (highFrom auxiliaryKind (sideAlong alongY (boxValue b)) t left base node tally ≡ highFrom auxiliaryKind (sideAlong alongY (boxValue b)) t deepest base node₀ from)
 
 abbrev μ-loop : tie.MeasureT-loop
 μ-loop t base b from node₀ tally₀ left₀ node tally left = left
@@ -51,8 +53,8 @@ returns c = rw (
 )
 
 -- src/count.rt:59:13
-at-requires : tie.Need-at-requires Inv-loop μ-loop
-at-requires c κs = search needs
+present-requires : tie.Need-present-requires Inv-loop μ-loop
+present-requires c κs = present _ _ _ (c .before .is-missing .ensures) (c .if1 .left)
 
 -- src/count.rt:64:12
 past-y-requires : tie.Need-past-y-requires Inv-loop μ-loop
@@ -84,7 +86,7 @@ loop-again c = (
     highFrom-suc auxiliaryKind _ _ _ (positive _ (c .before .before .before .before .before .before .before .before .before .before .before .before .before .loop-test .taken)),
     ← c .before .before .before .before .before .before .before .before .before .before .before .before .is-missing .ensures,
     c .before .before .before .before .before .before .before .before .before .before .before .if1 .left,
-    ← c .before .before .before .before .before .before .before .before .before .before .at .ensures,
+    ← c .before .before .before .before .before .before .before .before .before .before .present .ensures,
     ← c .before .before .before .before .before .past-y .ensures,
     c .before .before .before .before .if2 .taken,
     ← c .before .before .before .visit .ensures,
@@ -106,7 +108,7 @@ returns-2 c = rw (
   highFrom-suc auxiliaryKind _ _ _ (positive _ (c .before .before .before .before .before .before .before .before .before .before .before .before .before .loop-test .taken)),
   ← c .before .before .before .before .before .before .before .before .before .before .before .before .is-missing .ensures,
   c .before .before .before .before .before .before .before .before .before .before .before .if1 .left,
-  ← c .before .before .before .before .before .before .before .before .before .before .at .ensures,
+  ← c .before .before .before .before .before .before .before .before .before .before .present .ensures,
   ← c .before .before .before .before .before .past-y .ensures,
   c .before .before .before .before .if2 .taken,
   ← c .before .before .before .visit .ensures,
@@ -137,7 +139,7 @@ loop-again-2 c = (
     highFrom-suc auxiliaryKind _ _ _ (positive _ (c .before .before .before .before .before .before .before .before .before .before .before .loop-test .taken)),
     ← c .before .before .before .before .before .before .before .before .before .before .is-missing .ensures,
     c .before .before .before .before .before .before .before .before .before .if1 .left,
-    ← c .before .before .before .before .before .before .before .before .at .ensures,
+    ← c .before .before .before .before .before .before .before .before .present .ensures,
     ← c .before .before .before .past-y .ensures,
     c .before .before .if2 .left,
     ← c .before .visit4 .ensures,
@@ -163,7 +165,7 @@ to-high-spec =
     sub-left
     is-missing-requires
     returns
-    at-requires
+    present-requires
     past-y-requires
     visit-requires
     past-y-requires-2

@@ -19,7 +19,7 @@ use Rattle.nodes.proofs.secondary.SecondaryArm.grown.Reads as grown-reads
 use Rattle.secondary_build.proofs.inside.arm_at.Reads as arm-at-reads
 use Rattle.secondary_build.proofs.inside.mark_at.Reads as mark-at-reads
 use Rattle.secondary_build.proofs.inside.put_arm.Reads as put-arm-reads
-use Rattle.secondary_build.proofs.inside.record_at.Reads as record-at-reads
+use Rattle.nodes.proofs.secondary.SecondaryRecord.present.Reads as present-reads
 use Rattle.secondary_update.proofs.insert.child_place.Reads as child-place-reads
 use Rattle.secondary_update.proofs.insert.insert_afresh.Reads as insert-afresh-reads
 use Rattle.secondary_update.proofs.insert.insert_beneath.Reads as insert-beneath-reads
@@ -92,8 +92,8 @@ sub-left : tie.Need-sub-left Inv-loop μ-loop
 sub-left c = search needs
 
 -- src/insert.rt:207:13
-record-at-requires : tie.Need-record-at-requires Inv-loop μ-loop
-record-at-requires c κs = omega (arith, c .before .before .before .before .before .before .before .before .before .loop .inv .0, c .before .before .before .before .before .before .before .before .before .before .before .pre .3, c .before .if2 .left)
+present-requires : tie.Need-present-requires Inv-loop μ-loop
+present-requires c κs = omega (arith, c .before .before .before .before .before .before .before .before .before .loop .inv .0, c .before .before .before .before .before .before .before .before .before .before .before .pre .3, c .before .if2 .left)
 
 -- src/insert.rt:210:12
 disagree-requires : tie.Need-disagree-requires Inv-loop μ-loop
@@ -106,7 +106,7 @@ same-length-3 c = search needs
 -- src/insert.rt:211:13
 returns-3 : tie.Need-returns-3 Inv-loop μ-loop
 unfolding insertNode insertArm insertRecord
-returns-3 c = rw (← c .before .before .before .before .before .before .before .before .before .before .before .before .before .before .loop .inv .4, insert♯-suc _ (positive _ (c .before .before .before .before .before .before .before .before .before .before .before .before .before .loop-test .taken)), ← c .before .before .before .before .before .before .before .before .before .before .before .arm-at .ensures, ← c .before .before .before .before .before .before .before .before .before .slot .ensures, ← c .before .before .before .before .before .before .before .before .is-leaf .ensures, c .before .before .before .before .before .before .before .if1 .left, ← c .before .before .before .before .record-at .ensures, ← c .before .disagree .ensures, c .if3 .taken)
+returns-3 c = rw (← c .before .before .before .before .before .before .before .before .before .before .before .before .before .before .loop .inv .4, insert♯-suc _ (positive _ (c .before .before .before .before .before .before .before .before .before .before .before .before .before .loop-test .taken)), ← c .before .before .before .before .before .before .before .before .before .before .before .arm-at .ensures, ← c .before .before .before .before .before .before .before .before .before .slot .ensures, ← c .before .before .before .before .before .before .before .before .is-leaf .ensures, c .before .before .before .before .before .before .before .if1 .left, ← c .before .before .before .before .present .ensures, ← c .before .disagree .ensures, c .if3 .taken)
 
 -- src/insert.rt:213:22
 mark-at-requires : tie.Need-mark-at-requires Inv-loop μ-loop
@@ -131,7 +131,7 @@ same-length-4 c = search (needs, c .before .before .before .before .before .befo
 -- src/insert.rt:215:17
 returns-4 : tie.Need-returns-4 Inv-loop μ-loop
 unfolding insertNode insertArm insertRecord insertWay
-returns-4 c = rw (← c .before .before .before .before .before .before .before .before .before .before .before .before .before .before .before .before .before .before .before .before .before .before .before .before .loop .inv .4, insert♯-suc _ (positive _ (c .before .before .before .before .before .before .before .before .before .before .before .before .before .before .before .before .before .before .before .before .before .before .before .loop-test .taken)), ← c .before .before .before .before .before .before .before .before .before .before .before .before .before .before .before .before .before .before .before .before .before .arm-at .ensures, ← c .before .before .before .before .before .before .before .before .before .before .before .before .before .before .before .before .before .before .before .slot .ensures, ← c .before .before .before .before .before .before .before .before .before .before .before .before .before .before .before .before .before .before .is-leaf .ensures, c .before .before .before .before .before .before .before .before .before .before .before .before .before .before .before .before .before .if1 .left, ← c .before .before .before .before .before .before .before .before .before .before .before .before .before .before .record-at .ensures, ← c .before .before .before .before .before .before .before .before .before .before .before .disagree .ensures, c .before .before .before .before .before .before .before .before .before .before .if3 .left, ← c .before .before .before .before .before .before .before .before .mark-at .ensures, ← c .before .before .before .before .before .before .before .below-y .ensures, c .before .before .before .before .before .before .if4 .taken, ← c .before .before .before .before .before .unsteady .ensures, c .before .before .before .before .if5 .taken, ← c .before .before .insert-afresh .ensures)
+returns-4 c = rw (← c .before .before .before .before .before .before .before .before .before .before .before .before .before .before .before .before .before .before .before .before .before .before .before .before .loop .inv .4, insert♯-suc _ (positive _ (c .before .before .before .before .before .before .before .before .before .before .before .before .before .before .before .before .before .before .before .before .before .before .before .loop-test .taken)), ← c .before .before .before .before .before .before .before .before .before .before .before .before .before .before .before .before .before .before .before .before .before .arm-at .ensures, ← c .before .before .before .before .before .before .before .before .before .before .before .before .before .before .before .before .before .before .before .slot .ensures, ← c .before .before .before .before .before .before .before .before .before .before .before .before .before .before .before .before .before .before .is-leaf .ensures, c .before .before .before .before .before .before .before .before .before .before .before .before .before .before .before .before .before .if1 .left, ← c .before .before .before .before .before .before .before .before .before .before .before .before .before .before .present .ensures, ← c .before .before .before .before .before .before .before .before .before .before .before .disagree .ensures, c .before .before .before .before .before .before .before .before .before .before .if3 .left, ← c .before .before .before .before .before .before .before .before .mark-at .ensures, ← c .before .before .before .before .before .before .before .below-y .ensures, c .before .before .before .before .before .before .if4 .taken, ← c .before .before .before .before .before .unsteady .ensures, c .before .before .before .before .if5 .taken, ← c .before .before .insert-afresh .ensures)
 
 -- src/insert.rt:217:36
 grown-requires : tie.Need-grown-requires Inv-loop μ-loop
@@ -152,7 +152,7 @@ loop-less c = omega (arith, c .before .before .before .before .before .before .b
 -- src/insert.rt:195:5
 loop-again : tie.Need-loop-again Inv-loop μ-loop
 unfolding insertNode insertArm insertRecord insertWay
-loop-again c = (search (needs, c .before .before .before .before .before .before .before .before .before .before .before .before .before .before .before .before .before .before .before .before .before .before .before .before .before .before .loop .inv .0), c .child-place .ensures .1, within _ _ _ _ _ _ (c .child-place .ensures .0) (c .before .before .before .before .before .before .before .before .before .before .before .before .before .before .before .before .before .before .if2 .left) (c .before .before .before .before .before .before .before .before .before .before .before .before .before .before .before .before .before .before .before .before .before .before .before .before .before .before .before .before .pre .3), omega (arith, c .before .before .before .before .before .before .before .before .before .before .before .before .before .before .before .before .before .before .before .before .before .before .before .before .before .before .loop .inv .3), rw (← c .before .before .before .before .before .before .before .before .before .before .before .before .before .before .before .before .before .before .before .before .before .before .before .before .before .before .loop .inv .4, insert♯-suc _ (positive _ (c .before .before .before .before .before .before .before .before .before .before .before .before .before .before .before .before .before .before .before .before .before .before .before .before .before .loop-test .taken)), ← c .before .before .before .before .before .before .before .before .before .before .before .before .before .before .before .before .before .before .before .before .before .before .before .arm-at .ensures, ← c .before .before .before .before .before .before .before .before .before .before .before .before .before .before .before .before .before .before .before .before .before .slot .ensures, ← c .before .before .before .before .before .before .before .before .before .before .before .before .before .before .before .before .before .before .before .before .is-leaf .ensures, c .before .before .before .before .before .before .before .before .before .before .before .before .before .before .before .before .before .before .before .if1 .left, ← c .before .before .before .before .before .before .before .before .before .before .before .before .before .before .before .before .record-at .ensures, ← c .before .before .before .before .before .before .before .before .before .before .before .before .before .disagree .ensures, c .before .before .before .before .before .before .before .before .before .before .before .before .if3 .left, ← c .before .before .before .before .before .before .before .before .before .before .mark-at .ensures, ← c .before .before .before .before .before .before .before .before .before .below-y .ensures, c .before .before .before .before .before .before .before .before .if4 .taken, ← c .before .before .before .before .before .before .before .unsteady .ensures, c .before .before .before .before .before .before .if5 .left, ← c .before .before .before .before .grown .ensures, ← c .before .before .before .put-arm .ensures, ← c .child-place .ensures .0))
+loop-again c = (search (needs, c .before .before .before .before .before .before .before .before .before .before .before .before .before .before .before .before .before .before .before .before .before .before .before .before .before .before .loop .inv .0), c .child-place .ensures .1, within _ _ _ _ _ _ (c .child-place .ensures .0) (c .before .before .before .before .before .before .before .before .before .before .before .before .before .before .before .before .before .before .if2 .left) (c .before .before .before .before .before .before .before .before .before .before .before .before .before .before .before .before .before .before .before .before .before .before .before .before .before .before .before .before .pre .3), omega (arith, c .before .before .before .before .before .before .before .before .before .before .before .before .before .before .before .before .before .before .before .before .before .before .before .before .before .before .loop .inv .3), rw (← c .before .before .before .before .before .before .before .before .before .before .before .before .before .before .before .before .before .before .before .before .before .before .before .before .before .before .loop .inv .4, insert♯-suc _ (positive _ (c .before .before .before .before .before .before .before .before .before .before .before .before .before .before .before .before .before .before .before .before .before .before .before .before .before .loop-test .taken)), ← c .before .before .before .before .before .before .before .before .before .before .before .before .before .before .before .before .before .before .before .before .before .before .before .arm-at .ensures, ← c .before .before .before .before .before .before .before .before .before .before .before .before .before .before .before .before .before .before .before .before .before .slot .ensures, ← c .before .before .before .before .before .before .before .before .before .before .before .before .before .before .before .before .before .before .before .before .is-leaf .ensures, c .before .before .before .before .before .before .before .before .before .before .before .before .before .before .before .before .before .before .before .if1 .left, ← c .before .before .before .before .before .before .before .before .before .before .before .before .before .before .before .before .present .ensures, ← c .before .before .before .before .before .before .before .before .before .before .before .before .before .disagree .ensures, c .before .before .before .before .before .before .before .before .before .before .before .before .if3 .left, ← c .before .before .before .before .before .before .before .before .before .before .mark-at .ensures, ← c .before .before .before .before .before .before .before .before .before .below-y .ensures, c .before .before .before .before .before .before .before .before .if4 .taken, ← c .before .before .before .before .before .before .before .unsteady .ensures, c .before .before .before .before .before .before .if5 .left, ← c .before .before .before .before .grown .ensures, ← c .before .before .before .put-arm .ensures, ← c .child-place .ensures .0))
 
 -- src/insert.rt:220:16
 unsteady-requires-2 : tie.Need-unsteady-requires-2 Inv-loop μ-loop
@@ -169,7 +169,7 @@ same-length-5 c = search (needs, c .before .before .before .before .before .befo
 -- src/insert.rt:221:17
 returns-5 : tie.Need-returns-5 Inv-loop μ-loop
 unfolding insertNode insertArm insertRecord insertWay
-returns-5 c = rw (← c .before .before .before .before .before .before .before .before .before .before .before .before .before .before .before .before .before .before .before .before .before .before .before .before .loop .inv .4, insert♯-suc _ (positive _ (c .before .before .before .before .before .before .before .before .before .before .before .before .before .before .before .before .before .before .before .before .before .before .before .loop-test .taken)), ← c .before .before .before .before .before .before .before .before .before .before .before .before .before .before .before .before .before .before .before .before .before .arm-at .ensures, ← c .before .before .before .before .before .before .before .before .before .before .before .before .before .before .before .before .before .before .before .slot .ensures, ← c .before .before .before .before .before .before .before .before .before .before .before .before .before .before .before .before .before .before .is-leaf .ensures, c .before .before .before .before .before .before .before .before .before .before .before .before .before .before .before .before .before .if1 .left, ← c .before .before .before .before .before .before .before .before .before .before .before .before .before .before .record-at .ensures, ← c .before .before .before .before .before .before .before .before .before .before .before .disagree .ensures, c .before .before .before .before .before .before .before .before .before .before .if3 .left, ← c .before .before .before .before .before .before .before .before .mark-at .ensures, ← c .before .before .before .before .before .before .before .below-y .ensures, c .before .before .before .before .before .before .if4 .left, ← c .before .before .before .before .before .unsteady2 .ensures, c .before .before .before .before .if6 .taken, ← c .before .before .insert-afresh2 .ensures)
+returns-5 c = rw (← c .before .before .before .before .before .before .before .before .before .before .before .before .before .before .before .before .before .before .before .before .before .before .before .before .loop .inv .4, insert♯-suc _ (positive _ (c .before .before .before .before .before .before .before .before .before .before .before .before .before .before .before .before .before .before .before .before .before .before .before .loop-test .taken)), ← c .before .before .before .before .before .before .before .before .before .before .before .before .before .before .before .before .before .before .before .before .before .arm-at .ensures, ← c .before .before .before .before .before .before .before .before .before .before .before .before .before .before .before .before .before .before .before .slot .ensures, ← c .before .before .before .before .before .before .before .before .before .before .before .before .before .before .before .before .before .before .is-leaf .ensures, c .before .before .before .before .before .before .before .before .before .before .before .before .before .before .before .before .before .if1 .left, ← c .before .before .before .before .before .before .before .before .before .before .before .before .before .before .present .ensures, ← c .before .before .before .before .before .before .before .before .before .before .before .disagree .ensures, c .before .before .before .before .before .before .before .before .before .before .if3 .left, ← c .before .before .before .before .before .before .before .before .mark-at .ensures, ← c .before .before .before .before .before .before .before .below-y .ensures, c .before .before .before .before .before .before .if4 .left, ← c .before .before .before .before .before .unsteady2 .ensures, c .before .before .before .before .if6 .taken, ← c .before .before .insert-afresh2 .ensures)
 
 -- src/insert.rt:223:36
 grown-requires-2 : tie.Need-grown-requires-2 Inv-loop μ-loop
@@ -190,7 +190,7 @@ loop-less-2 c = omega (arith, c .before .before .before .before .before .before 
 -- src/insert.rt:195:5
 loop-again-2 : tie.Need-loop-again-2 Inv-loop μ-loop
 unfolding insertNode insertArm insertRecord insertWay
-loop-again-2 c = (search (needs, c .before .before .before .before .before .before .before .before .before .before .before .before .before .before .before .before .before .before .before .before .before .before .before .before .before .before .loop .inv .0), c .child-place2 .ensures .1, within _ _ _ _ _ _ (c .child-place2 .ensures .0) (c .before .before .before .before .before .before .before .before .before .before .before .before .before .before .before .before .before .before .if2 .left) (c .before .before .before .before .before .before .before .before .before .before .before .before .before .before .before .before .before .before .before .before .before .before .before .before .before .before .before .before .pre .3), omega (arith, c .before .before .before .before .before .before .before .before .before .before .before .before .before .before .before .before .before .before .before .before .before .before .before .before .before .before .loop .inv .3), rw (← c .before .before .before .before .before .before .before .before .before .before .before .before .before .before .before .before .before .before .before .before .before .before .before .before .before .before .loop .inv .4, insert♯-suc _ (positive _ (c .before .before .before .before .before .before .before .before .before .before .before .before .before .before .before .before .before .before .before .before .before .before .before .before .before .loop-test .taken)), ← c .before .before .before .before .before .before .before .before .before .before .before .before .before .before .before .before .before .before .before .before .before .before .before .arm-at .ensures, ← c .before .before .before .before .before .before .before .before .before .before .before .before .before .before .before .before .before .before .before .before .before .slot .ensures, ← c .before .before .before .before .before .before .before .before .before .before .before .before .before .before .before .before .before .before .before .before .is-leaf .ensures, c .before .before .before .before .before .before .before .before .before .before .before .before .before .before .before .before .before .before .before .if1 .left, ← c .before .before .before .before .before .before .before .before .before .before .before .before .before .before .before .before .record-at .ensures, ← c .before .before .before .before .before .before .before .before .before .before .before .before .before .disagree .ensures, c .before .before .before .before .before .before .before .before .before .before .before .before .if3 .left, ← c .before .before .before .before .before .before .before .before .before .before .mark-at .ensures, ← c .before .before .before .before .before .before .before .before .before .below-y .ensures, c .before .before .before .before .before .before .before .before .if4 .left, ← c .before .before .before .before .before .before .before .unsteady2 .ensures, c .before .before .before .before .before .before .if6 .left, ← c .before .before .before .before .grown2 .ensures, ← c .before .before .before .put-arm2 .ensures, ← c .child-place2 .ensures .0))
+loop-again-2 c = (search (needs, c .before .before .before .before .before .before .before .before .before .before .before .before .before .before .before .before .before .before .before .before .before .before .before .before .before .before .loop .inv .0), c .child-place2 .ensures .1, within _ _ _ _ _ _ (c .child-place2 .ensures .0) (c .before .before .before .before .before .before .before .before .before .before .before .before .before .before .before .before .before .before .if2 .left) (c .before .before .before .before .before .before .before .before .before .before .before .before .before .before .before .before .before .before .before .before .before .before .before .before .before .before .before .before .pre .3), omega (arith, c .before .before .before .before .before .before .before .before .before .before .before .before .before .before .before .before .before .before .before .before .before .before .before .before .before .before .loop .inv .3), rw (← c .before .before .before .before .before .before .before .before .before .before .before .before .before .before .before .before .before .before .before .before .before .before .before .before .before .before .loop .inv .4, insert♯-suc _ (positive _ (c .before .before .before .before .before .before .before .before .before .before .before .before .before .before .before .before .before .before .before .before .before .before .before .before .before .loop-test .taken)), ← c .before .before .before .before .before .before .before .before .before .before .before .before .before .before .before .before .before .before .before .before .before .before .before .arm-at .ensures, ← c .before .before .before .before .before .before .before .before .before .before .before .before .before .before .before .before .before .before .before .before .before .slot .ensures, ← c .before .before .before .before .before .before .before .before .before .before .before .before .before .before .before .before .before .before .before .before .is-leaf .ensures, c .before .before .before .before .before .before .before .before .before .before .before .before .before .before .before .before .before .before .before .if1 .left, ← c .before .before .before .before .before .before .before .before .before .before .before .before .before .before .before .before .present .ensures, ← c .before .before .before .before .before .before .before .before .before .before .before .before .before .disagree .ensures, c .before .before .before .before .before .before .before .before .before .before .before .before .if3 .left, ← c .before .before .before .before .before .before .before .before .before .before .mark-at .ensures, ← c .before .before .before .before .before .before .before .before .before .below-y .ensures, c .before .before .before .before .before .before .before .before .if4 .left, ← c .before .before .before .before .before .before .before .unsteady2 .ensures, c .before .before .before .before .before .before .if6 .left, ← c .before .before .before .before .grown2 .ensures, ← c .before .before .before .put-arm2 .ensures, ← c .child-place2 .ensures .0))
 
 -- src/insert.rt:181:1
 same-length-6 : tie.Need-same-length-6 Inv-loop μ-loop
@@ -217,7 +217,7 @@ insert-inside-spec =
     same-length-2
     returns-2
     sub-left
-    record-at-requires
+    present-requires
     disagree-requires
     same-length-3
     returns-3

@@ -19,7 +19,7 @@ use Rattle.nodes.proofs.secondary.SecondaryArm.grown.Reads as grown-reads
 use Rattle.secondary_build.proofs.inside.arm_at.Reads as arm-at-reads
 use Rattle.secondary_build.proofs.inside.mark_at.Reads as mark-at-reads
 use Rattle.secondary_build.proofs.inside.put_arm.Reads as put-arm-reads
-use Rattle.secondary_build.proofs.inside.record_at.Reads as record-at-reads
+use Rattle.nodes.proofs.secondary.SecondaryRecord.present.Reads as present-reads
 use Rattle.secondary_update.proofs.insert.child_place.Reads as child-place-reads
 use Rattle.secondary_update.proofs.insert.insert_beneath.Reads as insert-beneath-reads
 use Rattle.secondary_update.proofs.insert.split.Reads as split-reads
@@ -90,8 +90,8 @@ sub-left : tie.Need-sub-left Inv-loop μ-loop
 sub-left c = search needs
 
 -- src/insert.rt:150:13
-record-at-requires : tie.Need-record-at-requires Inv-loop μ-loop
-record-at-requires c κs = omega (arith, c .before .before .before .before .before .before .before .before .before .loop .inv .0, c .before .before .before .before .before .before .before .before .before .before .before .pre .3, c .before .if2 .left)
+present-requires : tie.Need-present-requires Inv-loop μ-loop
+present-requires c κs = omega (arith, c .before .before .before .before .before .before .before .before .before .loop .inv .0, c .before .before .before .before .before .before .before .before .before .before .before .pre .3, c .before .if2 .left)
 
 -- src/insert.rt:153:12
 disagree-requires : tie.Need-disagree-requires Inv-loop μ-loop
@@ -104,7 +104,7 @@ same-length-3 c = search needs
 -- src/insert.rt:154:13
 returns-3 : tie.Need-returns-3 Inv-loop μ-loop
 unfolding insertNode insertArm insertRecord
-returns-3 c = rw (← c .before .before .before .before .before .before .before .before .before .before .before .before .before .before .loop .inv .4, insert♯-suc _ (positive _ (c .before .before .before .before .before .before .before .before .before .before .before .before .before .loop-test .taken)), ← c .before .before .before .before .before .before .before .before .before .before .before .arm-at .ensures, ← c .before .before .before .before .before .before .before .before .before .slot .ensures, ← c .before .before .before .before .before .before .before .before .is-leaf .ensures, c .before .before .before .before .before .before .before .if1 .left, ← c .before .before .before .before .record-at .ensures, ← c .before .disagree .ensures, c .if3 .taken)
+returns-3 c = rw (← c .before .before .before .before .before .before .before .before .before .before .before .before .before .before .loop .inv .4, insert♯-suc _ (positive _ (c .before .before .before .before .before .before .before .before .before .before .before .before .before .loop-test .taken)), ← c .before .before .before .before .before .before .before .before .before .before .before .arm-at .ensures, ← c .before .before .before .before .before .before .before .before .before .slot .ensures, ← c .before .before .before .before .before .before .before .before .is-leaf .ensures, c .before .before .before .before .before .before .before .if1 .left, ← c .before .before .before .before .present .ensures, ← c .before .disagree .ensures, c .if3 .taken)
 
 -- src/insert.rt:156:31
 mark-at-requires : tie.Need-mark-at-requires Inv-loop μ-loop
@@ -133,7 +133,7 @@ loop-less c = omega (arith, c .before .before .before .before .before .before .b
 -- src/insert.rt:138:5
 loop-again : tie.Need-loop-again Inv-loop μ-loop
 unfolding insertNode insertArm insertRecord insertWay unsteady♯
-loop-again c = (search (needs, c .before .before .before .before .before .before .before .before .before .before .before .before .before .before .before .before .before .before .before .before .before .before .before .loop .inv .0), c .child-place .ensures .1, within _ _ _ _ _ _ (c .child-place .ensures .0) (c .before .before .before .before .before .before .before .before .before .before .before .before .before .before .before .if2 .left) (c .before .before .before .before .before .before .before .before .before .before .before .before .before .before .before .before .before .before .before .before .before .before .before .before .before .pre .3), omega (arith, c .before .before .before .before .before .before .before .before .before .before .before .before .before .before .before .before .before .before .before .before .before .before .before .loop .inv .3), rw (← c .before .before .before .before .before .before .before .before .before .before .before .before .before .before .before .before .before .before .before .before .before .before .before .loop .inv .4, insert♯-suc _ (positive _ (c .before .before .before .before .before .before .before .before .before .before .before .before .before .before .before .before .before .before .before .before .before .before .loop-test .taken)), ← c .before .before .before .before .before .before .before .before .before .before .before .before .before .before .before .before .before .before .before .before .arm-at .ensures, ← c .before .before .before .before .before .before .before .before .before .before .before .before .before .before .before .before .before .before .slot .ensures, ← c .before .before .before .before .before .before .before .before .before .before .before .before .before .before .before .before .before .is-leaf .ensures, c .before .before .before .before .before .before .before .before .before .before .before .before .before .before .before .before .if1 .left, ← c .before .before .before .before .before .before .before .before .before .before .before .before .before .record-at .ensures, ← c .before .before .before .before .before .before .before .before .before .before .disagree .ensures, c .before .before .before .before .before .before .before .before .before .if3 .left, ← c .before .before .before .before .before .before .before .mark-at .ensures, ← c .before .before .before .before .before .before .below-y .ensures, ← c .before .before .before .before .grown .ensures, ← c .before .before .before .put-arm .ensures, ← c .child-place .ensures .0))
+loop-again c = (search (needs, c .before .before .before .before .before .before .before .before .before .before .before .before .before .before .before .before .before .before .before .before .before .before .before .loop .inv .0), c .child-place .ensures .1, within _ _ _ _ _ _ (c .child-place .ensures .0) (c .before .before .before .before .before .before .before .before .before .before .before .before .before .before .before .if2 .left) (c .before .before .before .before .before .before .before .before .before .before .before .before .before .before .before .before .before .before .before .before .before .before .before .before .before .pre .3), omega (arith, c .before .before .before .before .before .before .before .before .before .before .before .before .before .before .before .before .before .before .before .before .before .before .before .loop .inv .3), rw (← c .before .before .before .before .before .before .before .before .before .before .before .before .before .before .before .before .before .before .before .before .before .before .before .loop .inv .4, insert♯-suc _ (positive _ (c .before .before .before .before .before .before .before .before .before .before .before .before .before .before .before .before .before .before .before .before .before .before .loop-test .taken)), ← c .before .before .before .before .before .before .before .before .before .before .before .before .before .before .before .before .before .before .before .before .arm-at .ensures, ← c .before .before .before .before .before .before .before .before .before .before .before .before .before .before .before .before .before .before .slot .ensures, ← c .before .before .before .before .before .before .before .before .before .before .before .before .before .before .before .before .before .is-leaf .ensures, c .before .before .before .before .before .before .before .before .before .before .before .before .before .before .before .before .if1 .left, ← c .before .before .before .before .before .before .before .before .before .before .before .before .before .present .ensures, ← c .before .before .before .before .before .before .before .before .before .before .disagree .ensures, c .before .before .before .before .before .before .before .before .before .if3 .left, ← c .before .before .before .before .before .before .before .mark-at .ensures, ← c .before .before .before .before .before .before .below-y .ensures, ← c .before .before .before .before .grown .ensures, ← c .before .before .before .put-arm .ensures, ← c .child-place .ensures .0))
 
 -- src/insert.rt:124:1
 same-length-4 : tie.Need-same-length-4 Inv-loop μ-loop
@@ -160,7 +160,7 @@ put-inside-spec =
     same-length-2
     returns-2
     sub-left
-    record-at-requires
+    present-requires
     disagree-requires
     same-length-3
     returns-3
