@@ -35,8 +35,8 @@ public:
     uint32_t below(uint32_t n) { return static_cast<uint32_t>(next() % n); }
 };
 
-// A camera's marks without end: one entry in five is a single stone, the others are scratches of 8 to 39 marks, 0.3 to 3 mm apart along a line. The tags are
-// all different, so no mark comes twice.
+// A camera's marks without end: one entry in five is a single stone, the others are scratches of 8 to 39 marks along a line, up to 3 mm apart in x and in y. The
+// tags are all different, so no mark comes twice.
 class Camera {
     Random random;
     uint32_t tag = 0, left = 0;
