@@ -4,12 +4,12 @@ use mathlib.Core.Path.{_≡_, refl, sym, ap₂, _∙_, fun-ext}
 use mathlib.Core.Bool.{Bool, true, false, _&&_}
 use mathlib.Core.List.{List, [], _∷_}
 use native.Mathlib.Omega.{arith}
-use lib.Dec.{eqb, leb}
-use borrow.Author.Tests.{eqb-true, eq-eqb, ne-eqb, lt-ltb, le-ltb, leb-true, le-leb}
+use lib.Dec.{eqb, ltb, leb}
+use borrow.Author.Tests.{eqb-true, eq-eqb, ne-eqb, lt-ltb, le-ltb, ltb-false, leb-true, leb-false, le-leb}
 use Rattle.model.specs.Axis.{Space, onSide, lexicographic, equalOn}
-use Rattle.model.specs.Sheet.{Mark, byXYTag, belowX, belowY, same, fromX1, toX2, fromY1, toY2, holds, sheet, alongX, alongY}
-use Rattle.model.specs.Laws.{SamenessLaws, AxisLaws}
-use Rattle.model.proofs.Logic.{by-cases, by-order, clash, and-left, and-right}
+use Rattle.model.specs.Sheet.{Mark, Box, boxCrossed, byXYTag, belowX, belowY, same, fromX1, toX2, fromY1, toY2, holds, sheet, alongX, alongY}
+use Rattle.model.specs.Laws.{SamenessLaws, AxisLaws, Straight}
+use Rattle.model.proofs.Logic.{by-cases, by-order, clash, and-left, and-right, or-neither}
 
 -- how one key decides
 module _ {M : Type 0} (k : M → ℕ) (ks : List (M → ℕ)) (a b : M) where
@@ -140,3 +140,15 @@ alongY-laws =
     (λ b. leb-rises (b .y1))
     (λ b. leb-falls (b .y2))
     (λ b m. and-right (onSide alongX b (m .x)) (onSide alongY b (m .y)))
+
+-- the sides of a box that is not crossed
+leb-straight : (low high v : ℕ) → ltb high low ≡ false → leb low v ≡ false → leb v high ≡ true
+leb-straight low high v e h = le-leb v high (omega (arith, ltb-false high low e, leb-false low v h))
+
+pub alongX-straight : (b : Box) → boxCrossed b ≡ false → Straight alongX b
+unfolding boxCrossed fromX1 toX2
+alongX-straight b e v = leb-straight (b .x1) (b .x2) v (or-neither (ltb (b .x2) (b .x1)) (ltb (b .y2) (b .y1)) e .0)
+
+pub alongY-straight : (b : Box) → boxCrossed b ≡ false → Straight alongY b
+unfolding boxCrossed fromY1 toY2
+alongY-straight b e v = leb-straight (b .y1) (b .y2) v (or-neither (ltb (b .x2) (b .x1)) (ltb (b .y2) (b .y1)) e .1)

@@ -38,6 +38,10 @@ module _ {M B : Type 0} where
     pub highFalls : (b : B) (v w : ℕ) → v ≤ w → A .toHigh b w ≡ true → A .toHigh b v ≡ true
     pub held : (b : B) (m : M) → S .holds b m ≡ true → onSide A b (A .at m) ≡ true
 
+  -- the side of a box that is not the wrong way round: a coordinate before it is not past it
+  abbrev pub Straight : Axis M B → B → Type 0
+  Straight A b = (v : ℕ) → A .fromLow b v ≡ false → A .toHigh b v ≡ true
+
   -- each mark is below all that follow
   pub data Sorted (A : Axis M B) : List M → Type 0 where
     sorted[] : Sorted A []

@@ -4,18 +4,18 @@ use mathlib.Core.Path.{_≡_, ap, _∙_}
 use mathlib.Core.Bool.{Bool, true, false, not}
 use mathlib.Core.List.{List, _++_}
 use native.Mathlib.Omega.{arith}
-use borrow.Author.Tests.{leb-true, leb-false, ltb-false, le-ltb, le-leb}
-use lib.Dec.{leb, ltb}
+use borrow.Author.Tests.{leb-true, le-ltb}
+use lib.Dec.{leb}
 use lib.ListN.{length}
 use Rattle.model.specs.Lists.{if_then_else_}
 use Rattle.model.specs.Axis.{Axis}
 use Rattle.model.specs.Register.{Found, Register}
 use Rattle.model.specs.Tree.{Tree, leaf, node, depth, weight, marks, least, greatest}
 use Rattle.model.specs.Search.{inside, clear, arrive, together, search}
-use Rattle.model.specs.Sheet.{Mark, Box, boxCrossed, fromX1, toX2, fromY1, toY2, sheet, alongX, alongY}
+use Rattle.model.specs.Sheet.{Mark, Box, sheet}
 use Rattle.model.specs.Slots.{slotSpace, slotAxis}
-use Rattle.model.specs.Laws.{AxisLaws, Sorted}
-use Rattle.model.proofs.Logic.{by-cases, clash, and-left, and-right, or-true-right, or-neither}
+use Rattle.model.specs.Laws.{AxisLaws, Straight, Sorted}
+use Rattle.model.proofs.Logic.{by-cases, clash, and-left, and-right, or-true-right}
 use Rattle.model.proofs.Sorted.{sorted-left, sorted-right}
 use Rattle.model.proofs.Tree.{weight-pos, all-least}
 use Rattle.model.proofs.Search.{cell-ordered, cells-follow, clear-none}
@@ -36,20 +36,6 @@ record-there A f xs at l r e =
     by-cases (leb (at + 8) (length xs))
     (λ t. le-ltb (length xs) (at + 8) (leb-true (at + 8) (length xs) t))
     (λ t. let z = ap (λ p. p .left .weight) (rw t at e) in absurd (omega (arith, z, weight-pos l)))
-
--- a coordinate before the box's side is not past it
-abbrev pub Straight : Axis Mark Box → Box → Type 0
-Straight A b = (v : ℕ) → A .fromLow b v ≡ false → A .toHigh b v ≡ true
-
-pub straight-x : (b : Box) → boxCrossed b ≡ false → Straight alongX b
-unfolding boxCrossed fromX1 toX2
-straight-x b e v h =
-    le-leb v (b .x2) (omega (arith, leb-false (b .x1) v h, ltb-false (b .x2) (b .x1) (or-neither (ltb (b .x2) (b .x1)) (ltb (b .y2) (b .y1)) e .0)))
-
-pub straight-y : (b : Box) → boxCrossed b ≡ false → Straight alongY b
-unfolding boxCrossed fromY1 toY2
-straight-y b e v h =
-    le-leb v (b .y2) (omega (arith, leb-false (b .y1) v h, ltb-false (b .y2) (b .y1) (or-neither (ltb (b .x2) (b .x1)) (ltb (b .y2) (b .y1)) e .1)))
 
 module _ {I : Type 0} (K : Kind) (X : Axis Mark Box) (b : Box) (f : ℕ → Mark) (R : Register ℕ Box I) (O : AxisLaws (slotSpace f sheet) (slotAxis f X))
     (xs : List ℕ) where

@@ -17,7 +17,7 @@ use Rattle.model.specs.Slots.{slotSpace, slotAxis}
 use Rattle.model.specs.Laws.{AxisLaws, Sorted}
 use Rattle.model.proofs.Logic.{by-cases}
 use Rattle.model.proofs.Lists.{sameBag-length}
-use Rattle.model.proofs.Orders.{alongX-laws, alongY-laws}
+use Rattle.model.proofs.Orders.{alongX-laws, alongY-laws, alongX-straight, alongY-straight}
 use Rattle.model.proofs.Slots.{slotAxis-laws}
 use Rattle.model.proofs.Search.{arrive-cases}
 use Rattle.model.proofs.Tree.{weight-pos, weight-marks}
@@ -32,7 +32,7 @@ use Rattle.table.proofs.Tallies.{visited-pack, pack-visits}
 use Rattle.twofold.specs.Levels.{deeper}
 use Rattle.twofold.specs.Rules.{SlotAuxiliary, SlotMain, slotAuxiliary, slotMain, ByRules}
 use Rattle.twofold.specs.TwoFold.{TwoFold}
-use Rattle.nodes.proofs.Searching.{straight-x, straight-y, Taken, Laid, count-adds}
+use Rattle.nodes.proofs.Searching.{Taken, Laid, count-adds}
 use Rattle.secondary_search.proofs.Counting.{Carries, searched, count-holds}
 use Rattle.secondary_search.proofs.Listing.{carriesBag-carries}
 use Rattle.primary_search.specs.Count.{leaf♯, handed♯, mainKind, mainSearch♯, countRoot, mainCount♯}
@@ -126,7 +126,7 @@ module _ (f : ℕ → Mark) (b : Box) where
             a .is,
             visited-pack k v 0 (omega arith) (omega arith),
             z,
-            count-holds f b (levelPlace C d) xs (straight-y b fine) u (a .records) (carriesBag-carries u (a .carries)) (inside-settled f C xs b d i l r h e) (a .sorted)
+            count-holds f b (levelPlace C d) xs (alongY-straight b fine) u (a .records) (carriesBag-carries u (a .carries)) (inside-settled f C xs b d i l r h e) (a .sorted)
                 (a .shallow) k (v + 1) (omega arith) (omega arith),
           ) (omega arith)
 
@@ -157,7 +157,7 @@ module _ (f : ℕ → Mark) (b : Box) where
         count-tree (node i l r) d h s hv hk =
             let odd : ((2 * least r + 1) % 2 ≡ 0 → ⊥) = omega arith in
             rw (ne-eqb ((2 * least r + 1) % 2) 0 odd)
-            (count-adds (mainKind xs C b) alongX b f (slotAuxiliary f) ordered xs (straight-x b fine) (levelPlace C 0) (node i l r) (omega arith)
+            (count-adds (mainKind xs C b) alongX b f (slotAuxiliary f) ordered xs (alongX-straight b fine) (levelPlace C 0) (node i l r) (omega arith)
             (laid 0 (node i l r) (omega arith) h) s 0 0 (omega arith, omega arith) ∙ omega arith)
 
 module _ (f : ℕ → Mark) (C : ℕ) (xs : List ℕ) where

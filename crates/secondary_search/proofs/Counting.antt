@@ -12,7 +12,7 @@ use Rattle.model.specs.Tree.{Tree, leaf, node, weight, depth, marks}
 use Rattle.model.specs.Search.{search}
 use Rattle.model.specs.Sheet.{Mark, Box, box, fromY1, toY2, sheet, holds, alongX, alongY}
 use Rattle.model.specs.Slots.{slotSpace, slotAxis}
-use Rattle.model.specs.Laws.{AxisLaws, All, cons, Sorted}
+use Rattle.model.specs.Laws.{AxisLaws, Straight, All, cons, Sorted}
 use Rattle.model.proofs.Logic.{by-cases}
 use Rattle.model.proofs.Lists.{all-left, all-right}
 use Rattle.model.proofs.Orders.{alongY-laws}
@@ -22,7 +22,7 @@ use Rattle.table.specs.Tally.{mostVisits, pack}
 use Rattle.table.proofs.Tallies.{visited-pack}
 use Rattle.nodes.specs.Arms.{Arm}
 use Rattle.nodes.specs.Holds.{armOf, Holds}
-use Rattle.nodes.proofs.Searching.{Straight, Taken, Laid, count-adds}
+use Rattle.nodes.proofs.Searching.{Taken, Laid, count-adds}
 use Rattle.secondary_search.specs.Count.{auxiliaryKind, count♯}
 
 -- each node carries as many slots as stand beneath it
