@@ -187,26 +187,12 @@ impl PrimaryRecord {
     pub fn at(t: &[u32], name: u32) -> PrimaryRecord
         ensures { λ r. ⌜ primaryRecord r ≡ recordAt (now (t .entry)) (mainPlace name) ⌝ }
     {
-        let at = 67 + 16 * (name as usize);
-        if at + 8 <= t.len() {
-            let left = PrimaryArm {
-                node: Primary(t[at]),
-                weight: t[at + 1],
-                least: t[at + 2],
-                greatest: t[at + 3],
-            };
-            let right = PrimaryArm {
-                node: Primary(t[at + 4]),
-                weight: t[at + 5],
-                least: t[at + 6],
-                greatest: t[at + 7],
-            };
-            PrimaryRecord { left, right }
-        } else {
-            let left = PrimaryArm::none();
-            let right = PrimaryArm::none();
-            PrimaryRecord { left, right }
+        if 67 + 16 * (name as usize) + 8 <= t.len() {
+            return PrimaryRecord::present(t, name);
         }
+        let left = PrimaryArm::none();
+        let right = PrimaryArm::none();
+        PrimaryRecord { left, right }
     }
 
     pub fn put(t: &mut [u32], name: u32, l: PrimaryArm, r: PrimaryArm)

@@ -175,26 +175,12 @@ impl SecondaryRecord {
     pub fn at(t: &[u32], base: u32, name: u32) -> SecondaryRecord
         ensures { λ r. ⌜ secondaryRecord r ≡ recordAt (now (t .entry)) (recordPlace base name) ⌝ }
     {
-        let at = (base as usize) + 8 * (name as usize);
-        if at + 8 <= t.len() {
-            let left = SecondaryArm {
-                node: Secondary(t[at]),
-                weight: t[at + 1],
-                least: t[at + 2],
-                greatest: t[at + 3],
-            };
-            let right = SecondaryArm {
-                node: Secondary(t[at + 4]),
-                weight: t[at + 5],
-                least: t[at + 6],
-                greatest: t[at + 7],
-            };
-            SecondaryRecord { left, right }
-        } else {
-            let left = SecondaryArm::none();
-            let right = SecondaryArm::none();
-            SecondaryRecord { left, right }
+        if (base as usize) + 8 * (name as usize) + 8 <= t.len() {
+            return SecondaryRecord::present(t, base, name);
         }
+        let left = SecondaryArm::none();
+        let right = SecondaryArm::none();
+        SecondaryRecord { left, right }
     }
 
     pub fn put(t: &mut [u32], base: u32, name: u32, l: SecondaryArm, r: SecondaryArm)
