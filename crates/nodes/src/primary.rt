@@ -152,7 +152,8 @@ impl PrimaryArm {
 }
 
 impl PrimaryRecord {
-    // Whether the words lack the record of that name. (What the name is compared with stays the same on a walk, which then has it ready.)
+    // Whether the words lack the record of that name; the one of name 0 takes words 67 to 74. (What the name is compared with stays the same on a walk, which
+    // then has it ready.)
     pub fn is_missing(t: &[u32], name: u32) -> bool
         ensures { λ r. ⌜ r ≡ recordMissing (now (t .entry)) (mainPlace name) ⌝ }
     {
