@@ -39,7 +39,7 @@ pub fn collect(
 ) -> u32
     ensures { λ r. ⌜ after r (now (t .exit)) ≡ collectBut♯ fuel capacity but weight (node .0) taken (now (t .entry)) ⌝ }
 {
-    let mut at = node.0;
+    let mut at = node;
     let mut got = taken;
     let mut rest = weight;
     let mut left = fuel;
@@ -48,14 +48,15 @@ pub fn collect(
         if capacity <= got {
             return LOST;
         }
-        if at % 2 == 0 {
-            return take(t, capacity, but, at / 2, got);
+        let s = at.slot();
+        if at.is_leaf() {
+            return take(t, capacity, but, s, got);
         }
-        let p = PrimaryRecord::at(t, at / 2);
+        let p = PrimaryRecord::at(t, s);
         let l = p.left;
         let r = p.right;
-        let first = l.node;
-        let second = r.node;
+        let left_node = l.node;
+        let right_node = r.node;
         let part = l.weight;
         if part == 0 {
             return LOST;
@@ -63,17 +64,17 @@ pub fn collect(
         if rest <= part {
             return LOST;
         }
-        if first.is_leaf() {
+        if left_node.is_leaf() {
             if left == 0 {
                 return LOST;
             }
-            got = take(t, capacity, but, first.slot(), got);
+            got = take(t, capacity, but, left_node.slot(), got);
             rest -= part;
-            at = second.0;
+            at = right_node;
         } else {
-            got = collect(t, capacity, first, but, got, part, left);
+            got = collect(t, capacity, left_node, but, got, part, left);
             rest -= part;
-            at = second.0;
+            at = right_node;
         }
     }
     LOST

@@ -56,31 +56,32 @@ fn from_low(t: &[u32], level: u32, capacity: u32, b: Box, start: Primary, from: 
     ensures { λ r. ⌜ r ≡ mainLow♯ (now (t .entry)) capacity (boxValue b) level (start .0) from ⌝ }
 {
     let mut base = level;
-    let mut node = start.0;
+    let mut node = start;
     let mut tally = from;
     let mut left = limits::DEEPEST;
     while 0 < left {
         left -= 1;
-        if PrimaryRecord::is_missing(t, node / 2) {
+        let s = node.slot();
+        if PrimaryRecord::is_missing(t, s) {
             return tally::LOST;
         }
-        let p = PrimaryRecord::present(t, node / 2);
+        let p = PrimaryRecord::present(t, s);
         let l = p.left;
         let r = p.right;
-        let x = l.node;
-        let y = r.node;
+        let left_node = l.node;
+        let right_node = r.node;
         base = levels::deeper(base, capacity);
         if b.before_x(l.greatest) {
             tally = tally::visit(tally, 0);
             if b.before_x(r.least) {
                 tally = tally::visit(tally, 0);
-                node = y.0;
+                node = right_node;
             } else {
-                return handed(t, base, b, y, tally);
+                return handed(t, base, b, right_node, tally);
             }
         } else {
-            tally = tally::visit(handed(t, base, b, y, tally), 0);
-            node = x.0;
+            tally = tally::visit(handed(t, base, b, right_node, tally), 0);
+            node = left_node;
         }
     }
     tally::LOST
@@ -91,31 +92,32 @@ fn to_high(t: &[u32], level: u32, capacity: u32, b: Box, start: Primary, from: u
     ensures { λ r. ⌜ r ≡ mainHigh♯ (now (t .entry)) capacity (boxValue b) level (start .0) from ⌝ }
 {
     let mut base = level;
-    let mut node = start.0;
+    let mut node = start;
     let mut tally = from;
     let mut left = limits::DEEPEST;
     while 0 < left {
         left -= 1;
-        if PrimaryRecord::is_missing(t, node / 2) {
+        let s = node.slot();
+        if PrimaryRecord::is_missing(t, s) {
             return tally::LOST;
         }
-        let p = PrimaryRecord::present(t, node / 2);
+        let p = PrimaryRecord::present(t, s);
         let l = p.left;
         let r = p.right;
-        let x = l.node;
-        let y = r.node;
+        let left_node = l.node;
+        let right_node = r.node;
         base = levels::deeper(base, capacity);
         if b.past_x(r.least) {
             tally = tally::visit(tally, 0);
             if b.past_x(l.greatest) {
                 tally = tally::visit(tally, 0);
-                node = x.0;
+                node = left_node;
             } else {
-                return handed(t, base, b, x, tally);
+                return handed(t, base, b, left_node, tally);
             }
         } else {
-            tally = tally::visit(handed(t, base, b, x, tally), 0);
-            node = y.0;
+            tally = tally::visit(handed(t, base, b, left_node, tally), 0);
+            node = right_node;
         }
     }
     tally::LOST
@@ -154,27 +156,28 @@ fn opened(t: &[u32], level: u32, capacity: u32, b: Box, start: Primary, from: u6
     ensures { λ r. ⌜ r ≡ mainOpened♯ (now (t .entry)) capacity (boxValue b) level (start .0) from ⌝ }
 {
     let mut base = level;
-    let mut node = start.0;
+    let mut node = start;
     let mut tally = from;
     let mut left = limits::DEEPEST;
     while 0 < left {
         left -= 1;
-        if PrimaryRecord::is_missing(t, node / 2) {
+        let s = node.slot();
+        if PrimaryRecord::is_missing(t, s) {
             return tally::LOST;
         }
-        let p = PrimaryRecord::present(t, node / 2);
+        let p = PrimaryRecord::present(t, s);
         let l = p.left;
         let r = p.right;
-        let x = l.node;
-        let y = r.node;
+        let left_node = l.node;
+        let right_node = r.node;
         base = levels::deeper(base, capacity);
         if b.before_x(r.least) {
             tally = tally::visit(tally::visit(tally, 0), 0);
-            node = y.0;
+            node = right_node;
         } else {
             if b.past_x(l.greatest) {
                 tally = tally::visit(tally::visit(tally, 0), 0);
-                node = x.0;
+                node = left_node;
             } else {
                 let low = low_end(t, base, capacity, b, l, tally);
                 return high_end(t, base, capacity, b, r, low);

@@ -23,7 +23,7 @@ pub fn collect(
 ) -> u32
     ensures { λ r. ⌜ after r (now (t .exit)) ≡ collect♯ fuel (recordPlace base) capacity most (node .0) taken (now (t .entry)) ⌝ }
 {
-    let mut at = node.0;
+    let mut at = node;
     let mut got = taken;
     let mut left = fuel;
     while 0 < left {
@@ -31,25 +31,26 @@ pub fn collect(
         if most <= got {
             return LOST;
         }
-        if at % 2 == 0 {
-            runs::put_run(t, capacity, got, at / 2);
+        let s = at.slot();
+        if at.is_leaf() {
+            runs::put_run(t, capacity, got, s);
             return got + 1;
         }
-        let p = SecondaryRecord::at(t, base, at / 2);
+        let p = SecondaryRecord::at(t, base, s);
         let l = p.left;
         let r = p.right;
-        let first = l.node;
-        let second = r.node;
-        if first.is_leaf() {
+        let left_node = l.node;
+        let right_node = r.node;
+        if left_node.is_leaf() {
             if left == 0 {
                 return LOST;
             }
-            runs::put_run(t, capacity, got, first.slot());
+            runs::put_run(t, capacity, got, left_node.slot());
             got += 1;
-            at = second.0;
+            at = right_node;
         } else {
-            got = collect(t, base, capacity, first, got, most, left);
-            at = second.0;
+            got = collect(t, base, capacity, left_node, got, most, left);
+            at = right_node;
         }
     }
     LOST

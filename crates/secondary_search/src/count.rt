@@ -15,30 +15,31 @@ use table::tally;
 fn from_low(t: &[u32], base: u32, b: Box, start: Secondary, from: u64) -> u64
     ensures { λ r. ⌜ r ≡ low♯ (now (t .entry)) (boxValue b) base (start .0) from ⌝ }
 {
-    let mut node = start.0;
+    let mut node = start;
     let mut tally = from;
     let mut left = limits::DEEPEST;
     while 0 < left {
         left -= 1;
-        if SecondaryRecord::is_missing(t, base, node / 2) {
+        let s = node.slot();
+        if SecondaryRecord::is_missing(t, base, s) {
             return tally::LOST;
         }
-        let p = SecondaryRecord::present(t, base, node / 2);
+        let p = SecondaryRecord::present(t, base, s);
         let l = p.left;
         let r = p.right;
-        let x = l.node;
-        let y = r.node;
+        let left_node = l.node;
+        let right_node = r.node;
         if b.before_y(l.greatest) {
             tally = tally::visit(tally, 0);
             if b.before_y(r.least) {
                 tally = tally::visit(tally, 0);
-                node = y.0;
+                node = right_node;
             } else {
                 return tally::visit(tally, r.weight);
             }
         } else {
             tally = tally::visit(tally::visit(tally, r.weight), 0);
-            node = x.0;
+            node = left_node;
         }
     }
     tally::LOST
@@ -48,30 +49,31 @@ fn from_low(t: &[u32], base: u32, b: Box, start: Secondary, from: u64) -> u64
 fn to_high(t: &[u32], base: u32, b: Box, start: Secondary, from: u64) -> u64
     ensures { λ r. ⌜ r ≡ high♯ (now (t .entry)) (boxValue b) base (start .0) from ⌝ }
 {
-    let mut node = start.0;
+    let mut node = start;
     let mut tally = from;
     let mut left = limits::DEEPEST;
     while 0 < left {
         left -= 1;
-        if SecondaryRecord::is_missing(t, base, node / 2) {
+        let s = node.slot();
+        if SecondaryRecord::is_missing(t, base, s) {
             return tally::LOST;
         }
-        let p = SecondaryRecord::present(t, base, node / 2);
+        let p = SecondaryRecord::present(t, base, s);
         let l = p.left;
         let r = p.right;
-        let x = l.node;
-        let y = r.node;
+        let left_node = l.node;
+        let right_node = r.node;
         if b.past_y(r.least) {
             tally = tally::visit(tally, 0);
             if b.past_y(l.greatest) {
                 tally = tally::visit(tally, 0);
-                node = x.0;
+                node = left_node;
             } else {
                 return tally::visit(tally, l.weight);
             }
         } else {
             tally = tally::visit(tally::visit(tally, l.weight), 0);
-            node = y.0;
+            node = right_node;
         }
     }
     tally::LOST
@@ -109,26 +111,27 @@ fn high_end(t: &[u32], base: u32, b: Box, a: SecondaryArm, tally: u64) -> u64
 fn opened(t: &[u32], base: u32, b: Box, start: Secondary, from: u64) -> u64
     ensures { λ r. ⌜ r ≡ opened♯ (now (t .entry)) (boxValue b) base (start .0) from ⌝ }
 {
-    let mut node = start.0;
+    let mut node = start;
     let mut tally = from;
     let mut left = limits::DEEPEST;
     while 0 < left {
         left -= 1;
-        if SecondaryRecord::is_missing(t, base, node / 2) {
+        let s = node.slot();
+        if SecondaryRecord::is_missing(t, base, s) {
             return tally::LOST;
         }
-        let p = SecondaryRecord::present(t, base, node / 2);
+        let p = SecondaryRecord::present(t, base, s);
         let l = p.left;
         let r = p.right;
-        let x = l.node;
-        let y = r.node;
+        let left_node = l.node;
+        let right_node = r.node;
         if b.before_y(r.least) {
             tally = tally::visit(tally::visit(tally, 0), 0);
-            node = y.0;
+            node = right_node;
         } else {
             if b.past_y(l.greatest) {
                 tally = tally::visit(tally::visit(tally, 0), 0);
-                node = x.0;
+                node = left_node;
             } else {
                 return high_end(t, base, b, r, low_end(t, base, b, l, tally));
             }

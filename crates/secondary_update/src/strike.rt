@@ -147,16 +147,16 @@ fn mend(
 fn strike_anywhere(
     t: &mut [u32],
     base: u32,
-    node: u32,
+    node: Secondary,
     weight: u32,
     m: Mark,
     s: u32,
     fuel: u32,
 ) -> Struck
-    ensures { λ u. ⌜ after (struckValue u) (now (t .exit)) ≡ strike♯ alongY fuel (recordPlace base) (markValue m) s true (arm node weight 0 0) (now (t .entry)) ⌝ }
+    ensures { λ u. ⌜ after (struckValue u) (now (t .exit)) ≡ strike♯ alongY fuel (recordPlace base) (markValue m) s true (arm (node .0) weight 0 0) (now (t .entry)) ⌝ }
 {
     let a = SecondaryArm {
-        node: Secondary(node),
+        node,
         weight,
         least: 0,
         greatest: 0,
@@ -170,19 +170,19 @@ fn strike_inside(
     t: &mut [u32],
     base: u32,
     capacity: u32,
-    node: u32,
+    node: Secondary,
     weight: u32,
     m: Mark,
     s: u32,
     fuel: u32,
 ) -> Struck
     requires { ⌜ (0 < weight) × (64 + 16 * capacity ≤ length (now t)) × (base + 8 * capacity ≤ length (now t)) ⌝ }
-    ensures { λ u. ⌜ after (struckValue u) (now (t .exit)) ≡ strike♯ alongY fuel (recordPlace base) (markValue m) s true (arm node weight 0 0) (now (t .entry)) ⌝ }
+    ensures { λ u. ⌜ after (struckValue u) (now (t .exit)) ≡ strike♯ alongY fuel (recordPlace base) (markValue m) s true (arm (node .0) weight 0 0) (now (t .entry)) ⌝ }
 {
     if fuel == 0 {
         return damaged();
     }
-    let name = node / 2;
+    let name = node.slot();
     if capacity <= name {
         return strike_anywhere(t, base, node, weight, m, s, fuel);
     }
@@ -198,8 +198,7 @@ fn strike_inside(
         }
         let less = weights::fewer(left.weight);
         if weights::balanced(less, right.weight) {
-            let next = left.node;
-            let u = strike_inside(t, base, capacity, next.0, left.weight, m, s, fuel - 1);
+            let u = strike_inside(t, base, capacity, left.node, left.weight, m, s, fuel - 1);
             let c = u.arm;
             if c.weight == less {
                 return keep(t, base, name, c, right, u.rebuilt, u.first);
@@ -216,8 +215,7 @@ fn strike_inside(
     }
     let less = weights::fewer(right.weight);
     if weights::balanced(left.weight, less) {
-        let next = right.node;
-        let u = strike_inside(t, base, capacity, next.0, right.weight, m, s, fuel - 1);
+        let u = strike_inside(t, base, capacity, right.node, right.weight, m, s, fuel - 1);
         let c = u.arm;
         let named = renamed(name, s, u.first);
         if c.weight == less {
@@ -236,7 +234,6 @@ pub fn strike(t: &mut [u32], base: u32, root: SecondaryArm, m: Mark, s: u32) -> 
     ensures { λ u. ⌜ after (struckValue u) (now (t .exit)) ≡ strike♯ alongY deepest (recordPlace base) (markValue m) s true (secondaryArm root) (now (t .entry)) ⌝ }
 {
     let capacity = header::capacity(t);
-    let node = root.node;
     if 0 < root.weight {
         if 64 + 16 * (capacity as usize) <= t.len() {
             if (base as usize) + 8 * (capacity as usize) <= t.len() {
@@ -244,7 +241,7 @@ pub fn strike(t: &mut [u32], base: u32, root: SecondaryArm, m: Mark, s: u32) -> 
                     t,
                     base,
                     capacity,
-                    node.0,
+                    root.node,
                     root.weight,
                     m,
                     s,
@@ -253,5 +250,5 @@ pub fn strike(t: &mut [u32], base: u32, root: SecondaryArm, m: Mark, s: u32) -> 
             }
         }
     }
-    strike_anywhere(t, base, node.0, root.weight, m, s, limits::DEEPEST)
+    strike_anywhere(t, base, root.node, root.weight, m, s, limits::DEEPEST)
 }

@@ -23,11 +23,11 @@ lent-whole : (xs : List ℕ) (capacity : ℕ) (b : Box) (base : ℕ) (a : Arm) (
     → r ≡ mainSearch♯ xs capacity b base a
 lent-whole xs capacity b base a r e = subst (λ ys. r ≡ mainSearch♯ ys capacity b base a) (take-all (length xs - 0) xs (omega arith)) e
 
--- src/count.rt:182:9
+-- src/count.rt:185:9
 at-requires : tie.Need-at-requires
 at-requires c κs = search needs
 
--- src/count.rt:184:9
+-- src/count.rt:187:9
 returns : tie.Need-returns
 unfolding mainCount♯ countRoot
 returns c = rw (
@@ -35,31 +35,31 @@ returns c = rw (
   eq-eqb _ _ (c .if1 .taken),
 )
 
--- src/count.rt:186:9
+-- src/count.rt:189:9
 capacity-requires : tie.Need-capacity-requires
 capacity-requires c κs = search needs
 
--- src/count.rt:188:12
+-- src/count.rt:191:12
 sub-search : tie.Need-sub-search
 sub-search c = search needs
 
--- src/count.rt:188:12
+-- src/count.rt:191:12
 part-search-start : tie.Need-part-search-start
 part-search-start c = search needs
 
--- src/count.rt:188:12
+-- src/count.rt:191:12
 part-search-end : tie.Need-part-search-end
 part-search-end c = search needs
 
--- src/count.rt:188:28
+-- src/count.rt:191:28
 top-requires : tie.Need-top-requires
 top-requires c κs = search needs
 
--- src/count.rt:188:5
+-- src/count.rt:191:5
 search-requires : tie.Need-search-requires
 search-requires c κs = search needs
 
--- src/count.rt:179:1
+-- src/count.rt:182:1
 returns-2 : tie.Need-returns-2
 unfolding mainCount♯ countRoot
 returns-2 c =

@@ -9,32 +9,32 @@ use Rattle.primary_search.proofs.count.handed.Reads as handed-reads
 use Rattle.primary_search.proofs.count.to_high.Reads as to-high-reads
 use Rattle.table.proofs.tally.visit.Reads as visit-reads
 
--- src/count.rt:122:8
+-- src/count.rt:124:8
 past-x-requires : tie.Need-past-x-requires
 past-x-requires c κs = search needs
 
--- src/count.rt:123:9
+-- src/count.rt:125:9
 visit-requires : tie.Need-visit-requires
 visit-requires c κs = search needs
 
--- src/count.rt:123:9
+-- src/count.rt:125:9
 returns : tie.Need-returns
 unfolding highEnd
 returns c = rw (← c .before .before .past-x .ensures, c .before .if1 .taken, ← c .visit .ensures)
 
--- src/count.rt:125:8
+-- src/count.rt:127:8
 past-x-requires-2 : tie.Need-past-x-requires-2
 past-x-requires-2 c κs = search needs
 
--- src/count.rt:126:49
+-- src/count.rt:128:49
 visit-requires-2 : tie.Need-visit-requires-2
 visit-requires-2 c κs = search needs
 
--- src/count.rt:126:9
+-- src/count.rt:128:9
 to-high-requires : tie.Need-to-high-requires
 to-high-requires c κs = search needs
 
--- src/count.rt:126:9
+-- src/count.rt:128:9
 returns-2 : tie.Need-returns-2
 unfolding highEnd
 returns-2 c = rw (
@@ -46,11 +46,11 @@ returns-2 c = rw (
   ← c .to-high .ensures,
 )
 
--- src/count.rt:128:5
+-- src/count.rt:130:5
 handed-requires : tie.Need-handed-requires
 handed-requires c κs = search needs
 
--- src/count.rt:118:1
+-- src/count.rt:120:1
 returns-3 : tie.Need-returns-3
 unfolding highEnd
 returns-3 c = rw (

@@ -9,32 +9,32 @@ use Rattle.primary_search.proofs.count.from_low.Reads as from-low-reads
 use Rattle.primary_search.proofs.count.handed.Reads as handed-reads
 use Rattle.table.proofs.tally.visit.Reads as visit-reads
 
--- src/count.rt:109:8
+-- src/count.rt:111:8
 before-x-requires : tie.Need-before-x-requires
 before-x-requires c κs = search needs
 
--- src/count.rt:110:9
+-- src/count.rt:112:9
 visit-requires : tie.Need-visit-requires
 visit-requires c κs = search needs
 
--- src/count.rt:110:9
+-- src/count.rt:112:9
 returns : tie.Need-returns
 unfolding lowEnd
 returns c = rw (← c .before .before .before-x .ensures, c .before .if1 .taken, ← c .visit .ensures)
 
--- src/count.rt:112:8
+-- src/count.rt:114:8
 before-x-requires-2 : tie.Need-before-x-requires-2
 before-x-requires-2 c κs = search needs
 
--- src/count.rt:113:50
+-- src/count.rt:115:50
 visit-requires-2 : tie.Need-visit-requires-2
 visit-requires-2 c κs = search needs
 
--- src/count.rt:113:9
+-- src/count.rt:115:9
 from-low-requires : tie.Need-from-low-requires
 from-low-requires c κs = search needs
 
--- src/count.rt:113:9
+-- src/count.rt:115:9
 returns-2 : tie.Need-returns-2
 unfolding lowEnd
 returns-2 c = rw (
@@ -46,11 +46,11 @@ returns-2 c = rw (
   ← c .from-low .ensures,
 )
 
--- src/count.rt:115:5
+-- src/count.rt:117:5
 handed-requires : tie.Need-handed-requires
 handed-requires c κs = search needs
 
--- src/count.rt:105:1
+-- src/count.rt:107:1
 returns-3 : tie.Need-returns-3
 unfolding lowEnd
 returns-3 c = rw (

@@ -1,3 +1,4 @@
+-- The loop keeps: left ≤ deepest; openFrom of left, base, node, tally is that of deepest, level, node₀, from. What falls: left.
 use Prim.Native.Nat.{ℕ, _<_, _≤_}
 use mathlib.Core.Path.{_≡_}
 use native.Mathlib.Omega.{arith}
@@ -14,8 +15,9 @@ use Rattle.primary_search.proofs.count.opened.Reads as reads
 use Rattle.primary_search.proofs.count.opened.Lts as lts
 use Rattle.geometry.proofs.Box.before_x.Reads as before-x-reads
 use Rattle.geometry.proofs.Box.past_x.Reads as past-x-reads
-use Rattle.nodes.proofs.primary.PrimaryRecord.present.Reads as present-reads
+use Rattle.nodes.proofs.primary.Primary.slot.Reads as slot-reads
 use Rattle.nodes.proofs.primary.PrimaryRecord.is_missing.Reads as is-missing-reads
+use Rattle.nodes.proofs.primary.PrimaryRecord.present.Reads as present-reads
 use Rattle.primary_search.proofs.count.high_end.Reads as high-end-reads
 use Rattle.primary_search.proofs.count.low_end.Reads as low-end-reads
 use Rattle.table.proofs.tally.visit.Reads as visit-reads
@@ -29,146 +31,189 @@ nothing n h = omega arith
 
 abbrev Inv-loop : tie.InvT-loop
 Inv-loop t level capacity b from base₀ node₀ tally₀ left₀ base node tally left =
-    (left ≤ deepest) × (openFrom (mainKind t capacity (boxValue b)) (sideAlong alongX (boxValue b)) t left base node tally ≡ openFrom (mainKind t capacity (boxValue b)) (sideAlong alongX (boxValue b)) t deepest level node₀ from)
+    (left ≤ deepest) ×
+    (openFrom (mainKind t capacity (boxValue b)) (sideAlong alongX (boxValue b)) t left base (node .0) tally ≡
+    openFrom (mainKind t capacity (boxValue b)) (sideAlong alongX (boxValue b)) t deepest level (node₀ .0) from)
 
 abbrev μ-loop : tie.MeasureT-loop
 μ-loop t level capacity b from base₀ node₀ tally₀ left₀ base node tally left = left
 
--- src/count.rt:140:5
+-- src/count.rt:162:5
 loop-holds : tie.Need-loop-holds Inv-loop μ-loop
 loop-holds c = search needs
 
--- src/count.rt:141:9
+-- src/count.rt:163:9
 sub-left : tie.Need-sub-left Inv-loop μ-loop
 sub-left c = search needs
 
--- src/count.rt:142:12
+-- src/count.rt:164:13
+slot-requires : tie.Need-slot-requires Inv-loop μ-loop
+slot-requires c κs = search needs
+
+-- src/count.rt:165:12
 is-missing-requires : tie.Need-is-missing-requires Inv-loop μ-loop
 is-missing-requires c κs = search needs
 
--- src/count.rt:143:13
+-- src/count.rt:166:13
 returns : tie.Need-returns Inv-loop μ-loop
 unfolding openNode openRecord
-returns c = rw (
-  ← c .before .before .before .loop .inv .1,
-  openFrom-suc _ _ _ _ (positive _ (c .before .before .loop-test .taken)),
-  ← c .before .is-missing .ensures,
-  c .if1 .taken,
-)
+returns c =
+    let at-slot = c .before .before in
+    let at-loop-test = at-slot .before in
+    let at-loop = at-loop-test .before in
+    rw (
+      ← at-loop .loop .inv .1,
+      openFrom-suc _ _ _ _ (positive _ (at-loop-test .loop-test .taken)),
+      ← at-slot .slot .ensures,
+      ← c .before .is-missing .ensures,
+      c .if1 .taken,
+    )
 
--- src/count.rt:145:13
+-- src/count.rt:168:13
 present-requires : tie.Need-present-requires Inv-loop μ-loop
 present-requires c κs = present _ _ _ (c .before .is-missing .ensures) (c .if1 .left)
 
--- src/count.rt:150:9
+-- src/count.rt:173:9
 deeper-requires : tie.Need-deeper-requires Inv-loop μ-loop
 deeper-requires c κs = search needs
 
--- src/count.rt:151:12
+-- src/count.rt:174:12
 before-x-requires : tie.Need-before-x-requires Inv-loop μ-loop
 before-x-requires c κs = search needs
 
--- src/count.rt:152:34
+-- src/count.rt:175:34
 visit-requires : tie.Need-visit-requires Inv-loop μ-loop
 visit-requires c κs = search needs
 
--- src/count.rt:152:13
+-- src/count.rt:175:13
 visit-requires-2 : tie.Need-visit-requires-2 Inv-loop μ-loop
 visit-requires-2 c κs = search needs
 
--- src/count.rt:140:5
+-- src/count.rt:162:5
 loop-less : tie.Need-loop-less Inv-loop μ-loop
 loop-less c = search needs
 
--- src/count.rt:140:5
+-- src/count.rt:162:5
 loop-again : tie.Need-loop-again Inv-loop μ-loop
 unfolding openNode openRecord
-loop-again c = (
-  omega (arith, c .before .before .before .before .before .before .before .before .before .before .before .before .before .loop .inv .0),
-  rw (
-    ← c .before .before .before .before .before .before .before .before .before .before .before .before .before .loop .inv .1,
-    openFrom-suc _ _ _ _ (positive _ (c .before .before .before .before .before .before .before .before .before .before .before .before .loop-test .taken)),
-    ← c .before .before .before .before .before .before .before .before .before .before .before .is-missing .ensures,
-    c .before .before .before .before .before .before .before .before .before .before .if1 .left,
-    ← c .before .before .before .before .before .before .before .before .before .present .ensures,
-    ← c .before .before .before .before .deeper .ensures,
-    ← c .before .before .before .before-x .ensures,
-    c .before .before .if2 .taken,
-    ← c .before .visit .ensures,
-    ← c .visit2 .ensures,
-  ),
-)
+loop-again c =
+    let at-if2 = c .before .before in
+    let at-before-x = at-if2 .before in
+    let at-deeper = at-before-x .before in
+    let at-present = at-deeper .before .before .before .before .before in
+    let at-if1 = at-present .before in
+    let at-is-missing = at-if1 .before in
+    let at-slot = at-is-missing .before in
+    let at-loop-test = at-slot .before in
+    let at-loop = at-loop-test .before in (
+      omega (arith, at-loop .loop .inv .0),
+      rw (
+        ← at-loop .loop .inv .1,
+        openFrom-suc _ _ _ _ (positive _ (at-loop-test .loop-test .taken)),
+        ← at-slot .slot .ensures,
+        ← at-is-missing .is-missing .ensures,
+        at-if1 .if1 .left,
+        ← at-present .present .ensures,
+        ← at-deeper .deeper .ensures,
+        ← at-before-x .before-x .ensures,
+        at-if2 .if2 .taken,
+        ← c .before .visit .ensures,
+        ← c .visit2 .ensures,
+      ),
+    )
 
--- src/count.rt:155:16
+-- src/count.rt:178:16
 past-x-requires : tie.Need-past-x-requires Inv-loop μ-loop
 past-x-requires c κs = search needs
 
--- src/count.rt:156:38
+-- src/count.rt:179:38
 visit-requires-3 : tie.Need-visit-requires-3 Inv-loop μ-loop
 visit-requires-3 c κs = search needs
 
--- src/count.rt:156:17
+-- src/count.rt:179:17
 visit-requires-4 : tie.Need-visit-requires-4 Inv-loop μ-loop
 visit-requires-4 c κs = search needs
 
--- src/count.rt:140:5
+-- src/count.rt:162:5
 loop-less-2 : tie.Need-loop-less-2 Inv-loop μ-loop
 loop-less-2 c = search needs
 
--- src/count.rt:140:5
+-- src/count.rt:162:5
 loop-again-2 : tie.Need-loop-again-2 Inv-loop μ-loop
 unfolding openNode openRecord
-loop-again-2 c = (
-  omega (arith, c .before .before .before .before .before .before .before .before .before .before .before .before .before .before .before .loop .inv .0),
-  rw (
-    ← c .before .before .before .before .before .before .before .before .before .before .before .before .before .before .before .loop .inv .1,
-    openFrom-suc _ _ _ _ (positive _ (c .before .before .before .before .before .before .before .before .before .before .before .before .before .before .loop-test .taken)),
-    ← c .before .before .before .before .before .before .before .before .before .before .before .before .before .is-missing .ensures,
-    c .before .before .before .before .before .before .before .before .before .before .before .before .if1 .left,
-    ← c .before .before .before .before .before .before .before .before .before .before .before .present .ensures,
-    ← c .before .before .before .before .before .before .deeper .ensures,
-    ← c .before .before .before .before .before .before-x .ensures,
-    c .before .before .before .before .if2 .left,
-    ← c .before .before .before .past-x .ensures,
-    c .before .before .if3 .taken,
-    ← c .before .visit3 .ensures,
-    ← c .visit4 .ensures,
-  ),
-)
+loop-again-2 c =
+    let at-if3 = c .before .before in
+    let at-past-x = at-if3 .before in
+    let at-if2 = at-past-x .before in
+    let at-before-x = at-if2 .before in
+    let at-deeper = at-before-x .before in
+    let at-present = at-deeper .before .before .before .before .before in
+    let at-if1 = at-present .before in
+    let at-is-missing = at-if1 .before in
+    let at-slot = at-is-missing .before in
+    let at-loop-test = at-slot .before in
+    let at-loop = at-loop-test .before in (
+      omega (arith, at-loop .loop .inv .0),
+      rw (
+        ← at-loop .loop .inv .1,
+        openFrom-suc _ _ _ _ (positive _ (at-loop-test .loop-test .taken)),
+        ← at-slot .slot .ensures,
+        ← at-is-missing .is-missing .ensures,
+        at-if1 .if1 .left,
+        ← at-present .present .ensures,
+        ← at-deeper .deeper .ensures,
+        ← at-before-x .before-x .ensures,
+        at-if2 .if2 .left,
+        ← at-past-x .past-x .ensures,
+        at-if3 .if3 .taken,
+        ← c .before .visit3 .ensures,
+        ← c .visit4 .ensures,
+      ),
+    )
 
--- src/count.rt:159:21
+-- src/count.rt:182:21
 low-end-requires : tie.Need-low-end-requires Inv-loop μ-loop
 low-end-requires c κs = search needs
 
--- src/count.rt:160:17
+-- src/count.rt:183:17
 high-end-requires : tie.Need-high-end-requires Inv-loop μ-loop
 high-end-requires c κs = search needs
 
--- src/count.rt:160:17
+-- src/count.rt:183:17
 returns-2 : tie.Need-returns-2 Inv-loop μ-loop
 unfolding openNode openRecord
-returns-2 c = rw (
-  ← c .before .before .before .before .before .before .before .before .before .before .before .before .before .before .before .loop .inv .1,
-  openFrom-suc _ _ _ _ (positive _ (c .before .before .before .before .before .before .before .before .before .before .before .before .before .before .loop-test .taken)),
-  ← c .before .before .before .before .before .before .before .before .before .before .before .before .before .is-missing .ensures,
-  c .before .before .before .before .before .before .before .before .before .before .before .before .if1 .left,
-  ← c .before .before .before .before .before .before .before .before .before .before .before .present .ensures,
-  ← c .before .before .before .before .before .before .deeper .ensures,
-  ← c .before .before .before .before .before .before-x .ensures,
-  c .before .before .before .before .if2 .left,
-  ← c .before .before .before .past-x .ensures,
-  c .before .before .if3 .left,
-  ← c .before .low-end .ensures,
-  ← c .high-end .ensures,
-)
+returns-2 c =
+    let at-if3 = c .before .before in
+    let at-past-x = at-if3 .before in
+    let at-if2 = at-past-x .before in
+    let at-before-x = at-if2 .before in
+    let at-deeper = at-before-x .before in
+    let at-present = at-deeper .before .before .before .before .before in
+    let at-if1 = at-present .before in
+    let at-is-missing = at-if1 .before in
+    let at-slot = at-is-missing .before in
+    let at-loop-test = at-slot .before in
+    let at-loop = at-loop-test .before in
+    rw (
+      ← at-loop .loop .inv .1,
+      openFrom-suc _ _ _ _ (positive _ (at-loop-test .loop-test .taken)),
+      ← at-slot .slot .ensures,
+      ← at-is-missing .is-missing .ensures,
+      at-if1 .if1 .left,
+      ← at-present .present .ensures,
+      ← at-deeper .deeper .ensures,
+      ← at-before-x .before-x .ensures,
+      at-if2 .if2 .left,
+      ← at-past-x .past-x .ensures,
+      at-if3 .if3 .left,
+      ← c .before .low-end .ensures,
+      ← c .high-end .ensures,
+    )
 
--- src/count.rt:133:1
+-- src/count.rt:155:1
 returns-3 : tie.Need-returns-3 Inv-loop μ-loop
 unfolding openNode openRecord
-returns-3 c = rw (
-  ← c .before .loop .inv .1,
-  openFrom-zero _ _ _ _ (nothing _ (c .loop-test .left)),
-)
+returns-3 c = rw (← c .before .loop .inv .1, openFrom-zero _ _ _ _ (nothing _ (c .loop-test .left)))
 
 pub opened-spec : {M : Type 1} → statement M
 opened-spec =
@@ -178,6 +223,7 @@ opened-spec =
     μ-loop
     loop-holds
     sub-left
+    slot-requires
     is-missing-requires
     returns
     present-requires

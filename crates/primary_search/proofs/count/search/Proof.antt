@@ -16,32 +16,32 @@ use Rattle.primary_search.proofs.count.leaf.Reads as leaf-reads
 use Rattle.primary_search.proofs.count.opened.Reads as opened-reads
 use Rattle.table.proofs.tally.visit.Reads as visit-reads
 
--- src/count.rt:192:9
+-- src/count.rt:195:9
 slot-requires : tie.Need-slot-requires
 slot-requires c κs = search needs
 
--- src/count.rt:193:8
+-- src/count.rt:196:8
 is-leaf-requires : tie.Need-is-leaf-requires
 is-leaf-requires c κs = search needs
 
--- src/count.rt:194:9
+-- src/count.rt:197:9
 leaf-requires : tie.Need-leaf-requires
 leaf-requires c κs = search needs
 
--- src/count.rt:194:9
+-- src/count.rt:197:9
 returns : tie.Need-returns
 unfolding mainSearch♯
 returns c = rw (← c .before .before .before .slot .ensures, ← c .before .before .is-leaf .ensures, c .before .if1 .taken, ← c .leaf .ensures)
 
--- src/count.rt:196:8
+-- src/count.rt:199:8
 inside-x-requires : tie.Need-inside-x-requires
 inside-x-requires c κs = search needs
 
--- src/count.rt:197:9
+-- src/count.rt:200:9
 hand-over-requires : tie.Need-hand-over-requires
 hand-over-requires c κs = search needs
 
--- src/count.rt:197:9
+-- src/count.rt:200:9
 returns-2 : tie.Need-returns-2
 unfolding mainSearch♯ countTree handed♯
 returns-2 c = rw (
@@ -52,15 +52,15 @@ returns-2 c = rw (
   c .before .if2 .taken,
 ) (c .hand-over .ensures ∙ count-by-y _ _ _ _ _)
 
--- src/count.rt:199:8
+-- src/count.rt:202:8
 clear-x-requires : tie.Need-clear-x-requires
 clear-x-requires c κs = search needs
 
--- src/count.rt:200:9
+-- src/count.rt:203:9
 visit-requires : tie.Need-visit-requires
 visit-requires c κs = search needs
 
--- src/count.rt:200:9
+-- src/count.rt:203:9
 returns-3 : tie.Need-returns-3
 unfolding mainSearch♯ countTree
 returns-3 c = rw (
@@ -73,15 +73,15 @@ returns-3 c = rw (
   ← c .visit .ensures,
 )
 
--- src/count.rt:202:38
+-- src/count.rt:205:38
 visit-requires-2 : tie.Need-visit-requires-2
 visit-requires-2 c κs = search needs
 
--- src/count.rt:202:5
+-- src/count.rt:205:5
 opened-requires : tie.Need-opened-requires
 opened-requires c κs = search needs
 
--- src/count.rt:188:1
+-- src/count.rt:191:1
 returns-4 : tie.Need-returns-4
 unfolding mainSearch♯ countTree
 returns-4 c = rw (

@@ -1,3 +1,4 @@
+-- The loop keeps: length of t is that of t₀; left ≤ fuel; collect♯ of left, at, got, t is that of fuel, at₀, got₀, t₀. What falls: left.
 use Prim.Native.Nat.{ℕ, _<_, _≤_}
 use borrow.Fn.Kinds.{In}
 use borrow.Fn.PlainCycle.{Measures, is, falls, and}
@@ -36,103 +37,226 @@ collect-below t = and 1 collect-kinds.ps (falls 1 collect-kinds.ps _<_ μ-collec
 
 abbrev collect-Inv-loop : collect-lts.InvT-loop
 collect-Inv-loop t₀ base capacity taken most fuel at₀ got₀ left₀ t at got left =
-    (length t ≡ length t₀) × (left ≤ fuel)
-    × (collect♯ left (recordPlace base) capacity most at got t ≡ collect♯ fuel (recordPlace base) capacity most at₀ got₀ t₀)
+    (length t ≡ length t₀) ×
+    (left ≤ fuel) ×
+    (collect♯ left (recordPlace base) capacity most (at .0) got t ≡
+    collect♯ fuel (recordPlace base) capacity most (at₀ .0) got₀ t₀)
 
 abbrev collect-μ-loop : collect-lts.MeasureT-loop
 collect-μ-loop t₀ base capacity taken most fuel at₀ got₀ left₀ t at got left = left
 
 abbrev said : ℕ → collect-lts.Claims
-said t = (put-run-reads.Asked, put-run-reads.Learnt, at-reads.Asked, at-reads.Learnt, is-leaf-reads.Asked, is-leaf-reads.Learnt, slot-reads.Asked, slot-reads.Learnt, collect-below t, collect.Post)
+said t = (
+  slot-reads.Asked,
+  slot-reads.Learnt,
+  is-leaf-reads.Asked,
+  is-leaf-reads.Learnt,
+  put-run-reads.Asked,
+  put-run-reads.Learnt,
+  at-reads.Asked,
+  at-reads.Learnt,
+  collect-below t,
+  collect.Post,
+)
 
 -- src/collect.rt:29:5
-collect-loop-holds : (t : ℕ) → collect-lts.Need-loop-holds (said t) (collect-at t) collect.Post collect-Inv-loop collect-μ-loop
+collect-loop-holds :
+    (t : ℕ) → collect-lts.Need-loop-holds (said t) (collect-at t) collect.Post collect-Inv-loop collect-μ-loop
 collect-loop-holds t c = search needs
 
 -- src/collect.rt:30:9
-collect-sub-left : (t : ℕ) → collect-lts.Need-sub-left (said t) (collect-at t) collect.Post collect-Inv-loop collect-μ-loop
+collect-sub-left :
+    (t : ℕ) → collect-lts.Need-sub-left (said t) (collect-at t) collect.Post collect-Inv-loop collect-μ-loop
 collect-sub-left t c = search needs
 
 -- src/collect.rt:32:13
-collect-same-length : (t : ℕ) → collect-lts.Need-same-length (said t) (collect-at t) collect.Post collect-Inv-loop collect-μ-loop
+collect-same-length :
+    (t : ℕ) → collect-lts.Need-same-length (said t) (collect-at t) collect.Post collect-Inv-loop collect-μ-loop
 collect-same-length t c = search needs
 
 -- src/collect.rt:32:13
-collect-returns : (t : ℕ) → collect-lts.Need-returns (said t) (collect-at t) collect.Post collect-Inv-loop collect-μ-loop
+collect-returns :
+    (t : ℕ) → collect-lts.Need-returns (said t) (collect-at t) collect.Post collect-Inv-loop collect-μ-loop
 unfolding collectNode
-collect-returns t c = rw (← c .before .before .loop .inv .2, collect♯-suc _ (positive _ (c .before .loop-test .taken)), le-leb _ _ (c .if1 .taken))
+collect-returns t c = rw (
+  ← c .before .before .loop .inv .2,
+  collect♯-suc _ (positive _ (c .before .loop-test .taken)),
+  le-leb _ _ (c .if1 .taken),
+)
 
--- src/collect.rt:35:13
-collect-put-run-requires : (t : ℕ) → collect-lts.Need-put-run-requires (said t) (collect-at t) collect.Post collect-Inv-loop collect-μ-loop
-collect-put-run-requires t c κs = search needs
-
--- src/collect.rt:36:20
-collect-add-result : (t : ℕ) → collect-lts.Need-add-result (said t) (collect-at t) collect.Post collect-Inv-loop collect-μ-loop
-collect-add-result t c = search needs
-
--- src/collect.rt:36:13
-collect-same-length-2 : (t : ℕ) → collect-lts.Need-same-length-2 (said t) (collect-at t) collect.Post collect-Inv-loop collect-μ-loop
-collect-same-length-2 t c = search needs
-
--- src/collect.rt:36:13
-collect-returns-2 : (t : ℕ) → collect-lts.Need-returns-2 (said t) (collect-at t) collect.Post collect-Inv-loop collect-μ-loop
-collect-returns-2 t c = rw (← c .before .before .before .before .before .before .before .loop .inv .2, collect-leaf _ (positive _ (c .before .before .before .before .before .before .loop-test .taken)) _ _ _ _ _ _ (c .before .before .before .before .before .if1 .left) (eq-eqb _ _ (c .before .before .before .before .if2 .taken)), ← c .before .before .put-run .ensures)
-
--- src/collect.rt:38:13
-collect-at-requires : (t : ℕ) → collect-lts.Need-at-requires (said t) (collect-at t) collect.Post collect-Inv-loop collect-μ-loop
-collect-at-requires t c κs = search needs
-
--- src/collect.rt:43:12
-collect-is-leaf-requires : (t : ℕ) → collect-lts.Need-is-leaf-requires (said t) (collect-at t) collect.Post collect-Inv-loop collect-μ-loop
-collect-is-leaf-requires t c κs = search needs
-
--- src/collect.rt:45:17
-collect-same-length-3 : (t : ℕ) → collect-lts.Need-same-length-3 (said t) (collect-at t) collect.Post collect-Inv-loop collect-μ-loop
-collect-same-length-3 t c = search needs
-
--- src/collect.rt:45:17
-collect-returns-3 : (t : ℕ) → collect-lts.Need-returns-3 (said t) (collect-at t) collect.Post collect-Inv-loop collect-μ-loop
-collect-returns-3 t c = rw (← c .before .before .before .before .before .before .before .before .before .before .before .before .loop .inv .2, collect-inner _ (positive _ (c .before .before .before .before .before .before .before .before .before .before .before .loop-test .taken)) _ _ _ _ _ _ (c .before .before .before .before .before .before .before .before .before .before .if1 .left) (ne-eqb _ _ (c .before .before .before .before .before .before .before .before .before .if2 .left)), collect-spent _ (c .if4 .taken))
-
--- src/collect.rt:47:45
-collect-slot-requires : (t : ℕ) → collect-lts.Need-slot-requires (said t) (collect-at t) collect.Post collect-Inv-loop collect-μ-loop
+-- src/collect.rt:34:13
+collect-slot-requires :
+    (t : ℕ) → collect-lts.Need-slot-requires (said t) (collect-at t) collect.Post collect-Inv-loop collect-μ-loop
 collect-slot-requires t c κs = search needs
 
--- src/collect.rt:47:13
-collect-put-run-requires-2 : (t : ℕ) → collect-lts.Need-put-run-requires-2 (said t) (collect-at t) collect.Post collect-Inv-loop collect-μ-loop
-collect-put-run-requires-2 t c κs = search needs
+-- src/collect.rt:35:12
+collect-is-leaf-requires :
+    (t : ℕ) → collect-lts.Need-is-leaf-requires (said t) (collect-at t) collect.Post collect-Inv-loop collect-μ-loop
+collect-is-leaf-requires t c κs = search needs
+
+-- src/collect.rt:36:13
+collect-put-run-requires :
+    (t : ℕ) → collect-lts.Need-put-run-requires (said t) (collect-at t) collect.Post collect-Inv-loop collect-μ-loop
+collect-put-run-requires t c κs = search needs
+
+-- src/collect.rt:37:20
+collect-add-result :
+    (t : ℕ) → collect-lts.Need-add-result (said t) (collect-at t) collect.Post collect-Inv-loop collect-μ-loop
+collect-add-result t c = search needs
+
+-- src/collect.rt:37:13
+collect-same-length-2 :
+    (t : ℕ) → collect-lts.Need-same-length-2 (said t) (collect-at t) collect.Post collect-Inv-loop collect-μ-loop
+collect-same-length-2 t c = search needs
+
+-- src/collect.rt:37:13
+collect-returns-2 :
+    (t : ℕ) → collect-lts.Need-returns-2 (said t) (collect-at t) collect.Post collect-Inv-loop collect-μ-loop
+collect-returns-2 t c =
+    let at-put-run = c .before .before in
+    let at-if2 = at-put-run .before .before in
+    let at-is-leaf = at-if2 .before in
+    let at-slot = at-is-leaf .before in
+    let at-if1 = at-slot .before in
+    let at-loop-test = at-if1 .before in
+    let at-loop = at-loop-test .before in
+    rw (
+      ← at-loop .loop .inv .2,
+      collect-leaf _ (positive _ (at-loop-test .loop-test .taken)) _ _ _ _ _ _ (at-if1 .if1 .left)
+          (sym (at-is-leaf .is-leaf .ensures) ∙ at-if2 .if2 .taken),
+      ← at-slot .slot .ensures,
+      ← at-put-run .put-run .ensures,
+    )
+
+-- src/collect.rt:39:13
+collect-at-requires :
+    (t : ℕ) → collect-lts.Need-at-requires (said t) (collect-at t) collect.Post collect-Inv-loop collect-μ-loop
+collect-at-requires t c κs = search needs
+
+-- src/collect.rt:44:12
+collect-is-leaf-requires-2 :
+    (t : ℕ) → collect-lts.Need-is-leaf-requires-2 (said t) (collect-at t) collect.Post collect-Inv-loop collect-μ-loop
+collect-is-leaf-requires-2 t c κs = search needs
+
+-- src/collect.rt:46:17
+collect-same-length-3 :
+    (t : ℕ) → collect-lts.Need-same-length-3 (said t) (collect-at t) collect.Post collect-Inv-loop collect-μ-loop
+collect-same-length-3 t c = search needs
+
+-- src/collect.rt:46:17
+collect-returns-3 :
+    (t : ℕ) → collect-lts.Need-returns-3 (said t) (collect-at t) collect.Post collect-Inv-loop collect-μ-loop
+collect-returns-3 t c =
+    let at-r = c .before .before .before .before .before in
+    let at-if2 = at-r .before .before .before .before in
+    let at-is-leaf = at-if2 .before in
+    let at-slot = at-is-leaf .before in
+    let at-if1 = at-slot .before in
+    let at-loop-test = at-if1 .before in
+    let at-loop = at-loop-test .before in
+    rw (
+      ← at-loop .loop .inv .2,
+      collect-inner _ (positive _ (at-loop-test .loop-test .taken)) _ _ _ _ _ _ (at-if1 .if1 .left)
+          (sym (at-is-leaf .is-leaf .ensures) ∙ at-if2 .if2 .left),
+      ← at-slot .slot .ensures,
+      collect-spent _ (c .if4 .taken),
+    )
+
+-- src/collect.rt:48:45
+collect-slot-requires-2 :
+    (t : ℕ) → collect-lts.Need-slot-requires-2 (said t) (collect-at t) collect.Post collect-Inv-loop collect-μ-loop
+collect-slot-requires-2 t c κs = search needs
 
 -- src/collect.rt:48:13
-collect-add-got : (t : ℕ) → collect-lts.Need-add-got (said t) (collect-at t) collect.Post collect-Inv-loop collect-μ-loop
+collect-put-run-requires-2 :
+    (t : ℕ) → collect-lts.Need-put-run-requires-2 (said t) (collect-at t) collect.Post collect-Inv-loop collect-μ-loop
+collect-put-run-requires-2 t c κs = search needs
+
+-- src/collect.rt:49:13
+collect-add-got :
+    (t : ℕ) → collect-lts.Need-add-got (said t) (collect-at t) collect.Post collect-Inv-loop collect-μ-loop
 collect-add-got t c = search needs
 
 -- src/collect.rt:29:5
-collect-loop-less : (t : ℕ) → collect-lts.Need-loop-less (said t) (collect-at t) collect.Post collect-Inv-loop collect-μ-loop
-collect-loop-less t c = omega (arith, c .before .before .before .before .before .before .before .before .before .before .before .before .before .before .before .before .loop-test .taken)
+collect-loop-less :
+    (t : ℕ) → collect-lts.Need-loop-less (said t) (collect-at t) collect.Post collect-Inv-loop collect-μ-loop
+collect-loop-less t c = search needs
 
 -- src/collect.rt:29:5
-collect-loop-again : (t : ℕ) → collect-lts.Need-loop-again (said t) (collect-at t) collect.Post collect-Inv-loop collect-μ-loop
-collect-loop-again t c = (search (needs, c .before .before .before .before .before .before .before .before .before .before .before .before .before .before .before .before .before .loop .inv .0), omega (arith, c .before .before .before .before .before .before .before .before .before .before .before .before .before .before .before .before .before .loop .inv .1), rw (← c .before .before .before .before .before .before .before .before .before .before .before .before .before .before .before .before .before .loop .inv .2, collect-inner _ (positive _ (c .before .before .before .before .before .before .before .before .before .before .before .before .before .before .before .before .loop-test .taken)) _ _ _ _ _ _ (c .before .before .before .before .before .before .before .before .before .before .before .before .before .before .before .if1 .left) (ne-eqb _ _ (c .before .before .before .before .before .before .before .before .before .before .before .before .before .before .if2 .left)), ← c .before .before .before .before .before .before .before .before .before .before .before .before .at .ensures, collect-left-leaf _ (c .before .before .before .before .before .if4 .left) _ _ _ _ _ _ (c .before .before .before .before .before .before .before .before .before .before .before .before .before .before .before .if1 .left) (sym (c .before .before .before .before .before .before .before .is-leaf .ensures) ∙ c .before .before .before .before .before .before .if3 .taken), ← c .before .before .before .slot .ensures, ← c .before .before .put-run2 .ensures))
+collect-loop-again :
+    (t : ℕ) → collect-lts.Need-loop-again (said t) (collect-at t) collect.Post collect-Inv-loop collect-μ-loop
+collect-loop-again t c =
+    let at-put-run2 = c .before .before in
+    let at-slot2 = at-put-run2 .before in
+    let at-if4 = at-slot2 .before .before in
+    let at-if3 = at-if4 .before in
+    let at-is-leaf2 = at-if3 .before in
+    let at-at = at-is-leaf2 .before .before .before .before .before in
+    let at-if2 = at-at .before .before in
+    let at-is-leaf = at-if2 .before in
+    let at-slot = at-is-leaf .before in
+    let at-if1 = at-slot .before in
+    let at-loop-test = at-if1 .before in
+    let at-loop = at-loop-test .before in (
+      search (needs, at-loop .loop .inv .0),
+      omega (arith, at-loop .loop .inv .1),
+      rw (
+        ← at-loop .loop .inv .2,
+        collect-inner _ (positive _ (at-loop-test .loop-test .taken)) _ _ _ _ _ _ (at-if1 .if1 .left)
+            (sym (at-is-leaf .is-leaf .ensures) ∙ at-if2 .if2 .left),
+        ← at-slot .slot .ensures,
+        ← at-at .at .ensures,
+        collect-left-leaf _ (at-if4 .if4 .left) _ _ _ _ _ _ (at-if1 .if1 .left)
+            (sym (at-is-leaf2 .is-leaf2 .ensures) ∙ at-if3 .if3 .taken),
+        ← at-slot2 .slot2 .ensures,
+        ← at-put-run2 .put-run2 .ensures,
+      ),
+    )
 
--- src/collect.rt:51:13
-collect-collect-requires : (t : ℕ) → collect-lts.Need-collect-requires (said t) (collect-at t) collect.Post collect-Inv-loop collect-μ-loop
+-- src/collect.rt:52:13
+collect-collect-requires :
+    (t : ℕ) → collect-lts.Need-collect-requires (said t) (collect-at t) collect.Post collect-Inv-loop collect-μ-loop
 collect-collect-requires t c κs = search needs
 
 -- src/collect.rt:29:5
-collect-loop-less-2 : (t : ℕ) → collect-lts.Need-loop-less-2 (said t) (collect-at t) collect.Post collect-Inv-loop collect-μ-loop
-collect-loop-less-2 t c = omega (arith, c .before .before .before .before .before .before .before .before .before .before .before .before .before .before .loop-test .taken)
+collect-loop-less-2 :
+    (t : ℕ) → collect-lts.Need-loop-less-2 (said t) (collect-at t) collect.Post collect-Inv-loop collect-μ-loop
+collect-loop-less-2 t c = search needs
 
 -- src/collect.rt:29:5
-collect-loop-again-2 : (t : ℕ) → collect-lts.Need-loop-again-2 (said t) (collect-at t) collect.Post collect-Inv-loop collect-μ-loop
+collect-loop-again-2 :
+    (t : ℕ) → collect-lts.Need-loop-again-2 (said t) (collect-at t) collect.Post collect-Inv-loop collect-μ-loop
 unfolding collectRecord
-collect-loop-again-2 t c = (search (needs, c .before .before .before .before .before .before .before .before .before .before .before .before .before .before .before .loop .inv .0), omega (arith, c .before .before .before .before .before .before .before .before .before .before .before .before .before .before .before .loop .inv .1), rw (← c .before .before .before .before .before .before .before .before .before .before .before .before .before .before .before .loop .inv .2, collect-inner _ (positive _ (c .before .before .before .before .before .before .before .before .before .before .before .before .before .before .loop-test .taken)) _ _ _ _ _ _ (c .before .before .before .before .before .before .before .before .before .before .before .before .before .if1 .left) (ne-eqb _ _ (c .before .before .before .before .before .before .before .before .before .before .before .before .if2 .left)), ← c .before .before .before .before .before .before .before .before .before .before .at .ensures, ← c .before .before .collect .ensures))
+collect-loop-again-2 t c =
+    let at-collect = c .before .before in
+    let at-right-node = at-collect .before .before .before .before in
+    let at-at = at-right-node .before .before .before .before in
+    let at-if2 = at-at .before .before in
+    let at-is-leaf = at-if2 .before in
+    let at-slot = at-is-leaf .before in
+    let at-if1 = at-slot .before in
+    let at-loop-test = at-if1 .before in
+    let at-loop = at-loop-test .before in (
+      search (needs, at-loop .loop .inv .0),
+      omega (arith, at-loop .loop .inv .1),
+      rw (
+        ← at-loop .loop .inv .2,
+        collect-inner _ (positive _ (at-loop-test .loop-test .taken)) _ _ _ _ _ _ (at-if1 .if1 .left)
+            (sym (at-is-leaf .is-leaf .ensures) ∙ at-if2 .if2 .left),
+        ← at-slot .slot .ensures,
+        ← at-at .at .ensures,
+        ← at-collect .collect .ensures,
+      ),
+    )
 
 -- src/collect.rt:15:1
-collect-same-length-4 : (t : ℕ) → collect-lts.Need-same-length-4 (said t) (collect-at t) collect.Post collect-Inv-loop collect-μ-loop
+collect-same-length-4 :
+    (t : ℕ) → collect-lts.Need-same-length-4 (said t) (collect-at t) collect.Post collect-Inv-loop collect-μ-loop
 collect-same-length-4 t c = search needs
 
 -- src/collect.rt:15:1
-collect-returns-4 : (t : ℕ) → collect-lts.Need-returns-4 (said t) (collect-at t) collect.Post collect-Inv-loop collect-μ-loop
+collect-returns-4 :
+    (t : ℕ) → collect-lts.Need-returns-4 (said t) (collect-at t) collect.Post collect-Inv-loop collect-μ-loop
 collect-returns-4 t c = rw (← c .before .loop .inv .2, collect♯-zero _ (nothing _ (c .loop-test .left)))
 
 pub +collect-spec : {M : Type 1} → statement M
@@ -145,15 +269,17 @@ pub +collect-spec : {M : Type 1} → statement M
     (collect-sub-left t)
     (collect-same-length t)
     (collect-returns t)
+    (collect-slot-requires t)
+    (collect-is-leaf-requires t)
     (collect-put-run-requires t)
     (collect-add-result t)
     (collect-same-length-2 t)
     (collect-returns-2 t)
     (collect-at-requires t)
-    (collect-is-leaf-requires t)
+    (collect-is-leaf-requires-2 t)
     (collect-same-length-3 t)
     (collect-returns-3 t)
-    (collect-slot-requires t)
+    (collect-slot-requires-2 t)
     (collect-put-run-requires-2 t)
     (collect-add-got t)
     (collect-loop-less t)

@@ -8,32 +8,32 @@ use Rattle.geometry.proofs.Box.before_y.Reads as before-y-reads
 use Rattle.secondary_search.proofs.count.from_low.Reads as from-low-reads
 use Rattle.table.proofs.tally.visit.Reads as visit-reads
 
--- src/count.rt:84:8
+-- src/count.rt:86:8
 before-y-requires : tie.Need-before-y-requires
 before-y-requires c κs = search needs
 
--- src/count.rt:85:9
+-- src/count.rt:87:9
 visit-requires : tie.Need-visit-requires
 visit-requires c κs = search needs
 
--- src/count.rt:85:9
+-- src/count.rt:87:9
 returns : tie.Need-returns
 unfolding lowEnd
 returns c = rw (← c .before .before .before-y .ensures, c .before .if1 .taken, ← c .visit .ensures)
 
--- src/count.rt:87:8
+-- src/count.rt:89:8
 before-y-requires-2 : tie.Need-before-y-requires-2
 before-y-requires-2 c κs = search needs
 
--- src/count.rt:89:40
+-- src/count.rt:91:40
 visit-requires-2 : tie.Need-visit-requires-2
 visit-requires-2 c κs = search needs
 
--- src/count.rt:89:9
+-- src/count.rt:91:9
 from-low-requires : tie.Need-from-low-requires
 from-low-requires c κs = search needs
 
--- src/count.rt:89:9
+-- src/count.rt:91:9
 returns-2 : tie.Need-returns-2
 unfolding lowEnd
 returns-2 c = rw (
@@ -45,11 +45,11 @@ returns-2 c = rw (
   ← c .from-low .ensures,
 )
 
--- src/count.rt:91:5
+-- src/count.rt:93:5
 visit-requires-3 : tie.Need-visit-requires-3
 visit-requires-3 c κs = search needs
 
--- src/count.rt:81:1
+-- src/count.rt:83:1
 returns-3 : tie.Need-returns-3
 unfolding lowEnd
 returns-3 c = rw (

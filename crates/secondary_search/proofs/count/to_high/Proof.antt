@@ -1,3 +1,4 @@
+-- The loop keeps: left ≤ deepest; highFrom of left, node, tally is that of deepest, node₀, from. What falls: left.
 use Prim.Native.Nat.{ℕ, _<_, _≤_}
 use mathlib.Core.Path.{_≡_}
 use native.Mathlib.Omega.{arith}
@@ -13,8 +14,9 @@ use Rattle.secondary_search.proofs.count.to_high.Tie as tie
 use Rattle.secondary_search.proofs.count.to_high.Reads as reads
 use Rattle.secondary_search.proofs.count.to_high.Lts as lts
 use Rattle.geometry.proofs.Box.past_y.Reads as past-y-reads
-use Rattle.nodes.proofs.secondary.SecondaryRecord.present.Reads as present-reads
+use Rattle.nodes.proofs.secondary.Secondary.slot.Reads as slot-reads
 use Rattle.nodes.proofs.secondary.SecondaryRecord.is_missing.Reads as is-missing-reads
+use Rattle.nodes.proofs.secondary.SecondaryRecord.present.Reads as present-reads
 use Rattle.table.proofs.tally.visit.Reads as visit-reads
 
 positive : (n : ℕ) → 0 < n → n ≡ 0 → ⊥
@@ -25,135 +27,175 @@ nothing n h = omega arith
 
 abbrev Inv-loop : tie.InvT-loop
 Inv-loop t base b from node₀ tally₀ left₀ node tally left =
-    (left ≤ deepest) × (highFrom auxiliaryKind (sideAlong alongY (boxValue b)) t left base node tally ≡ highFrom auxiliaryKind (sideAlong alongY (boxValue b)) t deepest base node₀ from)
+    (left ≤ deepest) ×
+    (highFrom auxiliaryKind (sideAlong alongY (boxValue b)) t left base (node .0) tally ≡
+    highFrom auxiliaryKind (sideAlong alongY (boxValue b)) t deepest base (node₀ .0) from)
 
 abbrev μ-loop : tie.MeasureT-loop
 μ-loop t base b from node₀ tally₀ left₀ node tally left = left
 
--- src/count.rt:54:5
+-- src/count.rt:55:5
 loop-holds : tie.Need-loop-holds Inv-loop μ-loop
 loop-holds c = search needs
 
--- src/count.rt:55:9
+-- src/count.rt:56:9
 sub-left : tie.Need-sub-left Inv-loop μ-loop
 sub-left c = search needs
 
--- src/count.rt:56:12
+-- src/count.rt:57:13
+slot-requires : tie.Need-slot-requires Inv-loop μ-loop
+slot-requires c κs = search needs
+
+-- src/count.rt:58:12
 is-missing-requires : tie.Need-is-missing-requires Inv-loop μ-loop
 is-missing-requires c κs = search needs
 
--- src/count.rt:57:13
+-- src/count.rt:59:13
 returns : tie.Need-returns Inv-loop μ-loop
 unfolding highNode highRecord
-returns c = rw (
-  ← c .before .before .before .loop .inv .1,
-  highFrom-suc auxiliaryKind _ _ _ (positive _ (c .before .before .loop-test .taken)),
-  ← c .before .is-missing .ensures,
-  c .if1 .taken,
-)
+returns c =
+    let at-slot = c .before .before in
+    let at-loop-test = at-slot .before in
+    let at-loop = at-loop-test .before in
+    rw (
+      ← at-loop .loop .inv .1,
+      highFrom-suc auxiliaryKind _ _ _ (positive _ (at-loop-test .loop-test .taken)),
+      ← at-slot .slot .ensures,
+      ← c .before .is-missing .ensures,
+      c .if1 .taken,
+    )
 
--- src/count.rt:59:13
+-- src/count.rt:61:13
 present-requires : tie.Need-present-requires Inv-loop μ-loop
 present-requires c κs = present _ _ _ (c .before .is-missing .ensures) (c .if1 .left)
 
--- src/count.rt:64:12
+-- src/count.rt:66:12
 past-y-requires : tie.Need-past-y-requires Inv-loop μ-loop
 past-y-requires c κs = search needs
 
--- src/count.rt:65:13
+-- src/count.rt:67:13
 visit-requires : tie.Need-visit-requires Inv-loop μ-loop
 visit-requires c κs = search needs
 
--- src/count.rt:66:16
+-- src/count.rt:68:16
 past-y-requires-2 : tie.Need-past-y-requires-2 Inv-loop μ-loop
 past-y-requires-2 c κs = search needs
 
--- src/count.rt:67:17
+-- src/count.rt:69:17
 visit-requires-2 : tie.Need-visit-requires-2 Inv-loop μ-loop
 visit-requires-2 c κs = search needs
 
--- src/count.rt:54:5
+-- src/count.rt:55:5
 loop-less : tie.Need-loop-less Inv-loop μ-loop
 loop-less c = search needs
 
--- src/count.rt:54:5
+-- src/count.rt:55:5
 loop-again : tie.Need-loop-again Inv-loop μ-loop
 unfolding highNode highRecord
-loop-again c = (
-  omega (arith, c .before .before .before .before .before .before .before .before .before .before .before .before .before .before .loop .inv .0),
-  rw (
-    ← c .before .before .before .before .before .before .before .before .before .before .before .before .before .before .loop .inv .1,
-    highFrom-suc auxiliaryKind _ _ _ (positive _ (c .before .before .before .before .before .before .before .before .before .before .before .before .before .loop-test .taken)),
-    ← c .before .before .before .before .before .before .before .before .before .before .before .before .is-missing .ensures,
-    c .before .before .before .before .before .before .before .before .before .before .before .if1 .left,
-    ← c .before .before .before .before .before .before .before .before .before .before .present .ensures,
-    ← c .before .before .before .before .before .past-y .ensures,
-    c .before .before .before .before .if2 .taken,
-    ← c .before .before .before .visit .ensures,
-    ← c .before .before .past-y2 .ensures,
-    c .before .if3 .taken,
-    ← c .visit2 .ensures,
-  ),
-)
+loop-again c =
+    let at-past-y2 = c .before .before in
+    let at-visit = at-past-y2 .before in
+    let at-if2 = at-visit .before in
+    let at-past-y = at-if2 .before in
+    let at-present = at-past-y .before .before .before .before .before in
+    let at-if1 = at-present .before in
+    let at-is-missing = at-if1 .before in
+    let at-slot = at-is-missing .before in
+    let at-loop-test = at-slot .before in
+    let at-loop = at-loop-test .before in (
+      omega (arith, at-loop .loop .inv .0),
+      rw (
+        ← at-loop .loop .inv .1,
+        highFrom-suc auxiliaryKind _ _ _ (positive _ (at-loop-test .loop-test .taken)),
+        ← at-slot .slot .ensures,
+        ← at-is-missing .is-missing .ensures,
+        at-if1 .if1 .left,
+        ← at-present .present .ensures,
+        ← at-past-y .past-y .ensures,
+        at-if2 .if2 .taken,
+        ← at-visit .visit .ensures,
+        ← at-past-y2 .past-y2 .ensures,
+        c .before .if3 .taken,
+        ← c .visit2 .ensures,
+      ),
+    )
 
--- src/count.rt:70:17
+-- src/count.rt:72:17
 visit-requires-3 : tie.Need-visit-requires-3 Inv-loop μ-loop
 visit-requires-3 c κs = search needs
 
--- src/count.rt:70:17
+-- src/count.rt:72:17
 returns-2 : tie.Need-returns-2 Inv-loop μ-loop
 unfolding highNode highRecord
-returns-2 c = rw (
-  ← c .before .before .before .before .before .before .before .before .before .before .before .before .before .before .loop .inv .1,
-  highFrom-suc auxiliaryKind _ _ _ (positive _ (c .before .before .before .before .before .before .before .before .before .before .before .before .before .loop-test .taken)),
-  ← c .before .before .before .before .before .before .before .before .before .before .before .before .is-missing .ensures,
-  c .before .before .before .before .before .before .before .before .before .before .before .if1 .left,
-  ← c .before .before .before .before .before .before .before .before .before .before .present .ensures,
-  ← c .before .before .before .before .before .past-y .ensures,
-  c .before .before .before .before .if2 .taken,
-  ← c .before .before .before .visit .ensures,
-  ← c .before .before .past-y2 .ensures,
-  c .before .if3 .left,
-  ← c .visit3 .ensures,
-)
+returns-2 c =
+    let at-past-y2 = c .before .before in
+    let at-visit = at-past-y2 .before in
+    let at-if2 = at-visit .before in
+    let at-past-y = at-if2 .before in
+    let at-present = at-past-y .before .before .before .before .before in
+    let at-if1 = at-present .before in
+    let at-is-missing = at-if1 .before in
+    let at-slot = at-is-missing .before in
+    let at-loop-test = at-slot .before in
+    let at-loop = at-loop-test .before in
+    rw (
+      ← at-loop .loop .inv .1,
+      highFrom-suc auxiliaryKind _ _ _ (positive _ (at-loop-test .loop-test .taken)),
+      ← at-slot .slot .ensures,
+      ← at-is-missing .is-missing .ensures,
+      at-if1 .if1 .left,
+      ← at-present .present .ensures,
+      ← at-past-y .past-y .ensures,
+      at-if2 .if2 .taken,
+      ← at-visit .visit .ensures,
+      ← at-past-y2 .past-y2 .ensures,
+      c .before .if3 .left,
+      ← c .visit3 .ensures,
+    )
 
--- src/count.rt:73:34
+-- src/count.rt:75:34
 visit-requires-4 : tie.Need-visit-requires-4 Inv-loop μ-loop
 visit-requires-4 c κs = search needs
 
--- src/count.rt:73:13
+-- src/count.rt:75:13
 visit-requires-5 : tie.Need-visit-requires-5 Inv-loop μ-loop
 visit-requires-5 c κs = search needs
 
--- src/count.rt:54:5
+-- src/count.rt:55:5
 loop-less-2 : tie.Need-loop-less-2 Inv-loop μ-loop
 loop-less-2 c = search needs
 
--- src/count.rt:54:5
+-- src/count.rt:55:5
 loop-again-2 : tie.Need-loop-again-2 Inv-loop μ-loop
 unfolding highNode highRecord
-loop-again-2 c = (
-  omega (arith, c .before .before .before .before .before .before .before .before .before .before .before .before .loop .inv .0),
-  rw (
-    ← c .before .before .before .before .before .before .before .before .before .before .before .before .loop .inv .1,
-    highFrom-suc auxiliaryKind _ _ _ (positive _ (c .before .before .before .before .before .before .before .before .before .before .before .loop-test .taken)),
-    ← c .before .before .before .before .before .before .before .before .before .before .is-missing .ensures,
-    c .before .before .before .before .before .before .before .before .before .if1 .left,
-    ← c .before .before .before .before .before .before .before .before .present .ensures,
-    ← c .before .before .before .past-y .ensures,
-    c .before .before .if2 .left,
-    ← c .before .visit4 .ensures,
-    ← c .visit5 .ensures,
-  ),
-)
+loop-again-2 c =
+    let at-if2 = c .before .before in
+    let at-past-y = at-if2 .before in
+    let at-present = at-past-y .before .before .before .before .before in
+    let at-if1 = at-present .before in
+    let at-is-missing = at-if1 .before in
+    let at-slot = at-is-missing .before in
+    let at-loop-test = at-slot .before in
+    let at-loop = at-loop-test .before in (
+      omega (arith, at-loop .loop .inv .0),
+      rw (
+        ← at-loop .loop .inv .1,
+        highFrom-suc auxiliaryKind _ _ _ (positive _ (at-loop-test .loop-test .taken)),
+        ← at-slot .slot .ensures,
+        ← at-is-missing .is-missing .ensures,
+        at-if1 .if1 .left,
+        ← at-present .present .ensures,
+        ← at-past-y .past-y .ensures,
+        at-if2 .if2 .left,
+        ← c .before .visit4 .ensures,
+        ← c .visit5 .ensures,
+      ),
+    )
 
--- src/count.rt:48:1
+-- src/count.rt:49:1
 returns-3 : tie.Need-returns-3 Inv-loop μ-loop
 unfolding highNode highRecord
-returns-3 c = rw (
-  ← c .before .loop .inv .1,
-  highFrom-zero auxiliaryKind _ _ _ (nothing _ (c .loop-test .left)),
-)
+returns-3 c = rw (← c .before .loop .inv .1, highFrom-zero auxiliaryKind _ _ _ (nothing _ (c .loop-test .left)))
 
 pub to-high-spec : {M : Type 1} → statement M
 to-high-spec =
@@ -163,6 +205,7 @@ to-high-spec =
     μ-loop
     loop-holds
     sub-left
+    slot-requires
     is-missing-requires
     returns
     present-requires
