@@ -20,12 +20,12 @@ add-at : tie.Need-add-at
 add-at c = search needs
 
 -- src/find.rt:69:5
-mul-result : tie.Need-mul-result
-mul-result c = search needs
+mul-t4 : tie.Need-mul-t4
+mul-t4 c = search needs
 
 -- src/find.rt:69:5
-shared-slice-read-result : tie.Need-shared-slice-read-result
-shared-slice-read-result c = search needs
+shared-slice-read-t7 : tie.Need-shared-slice-read-t7
+shared-slice-read-t7 c = search needs
 
 -- src/find.rt:64:1
 returns : tie.Need-returns
@@ -33,4 +33,4 @@ unfolding recordAt
 returns c = rw (le-leb _ _ (short _ _ (c .before .pre)))
 
 pub left-inside-spec : {M : Type 1} → statement M
-left-inside-spec = tie.close (tie.spec mul-at add-at mul-result shared-slice-read-result returns)
+left-inside-spec = tie.close (tie.spec mul-at add-at mul-t4 shared-slice-read-t7 returns)

@@ -20,16 +20,16 @@ add-at : tie.Need-add-at
 add-at c = search needs
 
 -- src/find.rt:77:7
-add-result : tie.Need-add-result
-add-result c = search needs
+add-t4 : tie.Need-add-t4
+add-t4 c = search needs
 
 -- src/find.rt:77:5
-mul-result : tie.Need-mul-result
-mul-result c = search needs
+mul-t5 : tie.Need-mul-t5
+mul-t5 c = search needs
 
 -- src/find.rt:77:5
-shared-slice-read-result : tie.Need-shared-slice-read-result
-shared-slice-read-result c = search needs
+shared-slice-read-t7 : tie.Need-shared-slice-read-t7
+shared-slice-read-t7 c = search needs
 
 -- src/find.rt:72:1
 returns : tie.Need-returns
@@ -38,4 +38,4 @@ returns c = rw (le-leb _ _ (short _ _ (c .before .pre)))
 
 pub right-inside-spec : {M : Type 1} → statement M
 right-inside-spec =
-    tie.close (tie.spec mul-at add-at add-result mul-result shared-slice-read-result returns)
+    tie.close (tie.spec mul-at add-at add-t4 mul-t5 shared-slice-read-t7 returns)

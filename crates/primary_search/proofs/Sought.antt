@@ -1,0 +1,88 @@
+-- On any words whatever, the mirror of the finding gives a slot only where the search by the words finds the mark there, and `absent` only where that search
+-- comes to its end without it. Assumes nothing.
+use Prim.Native.Nat.{ℕ, zero, suc, _+_, _*_, _/_, _%_, _<_}
+use mathlib.Core.Path.{_≡_, refl, sym, subst, _∙_}
+use mathlib.Core.Logic.{_≢_}
+use mathlib.Core.Bool.{true, false}
+use mathlib.Core.List.{List}
+use native.Mathlib.Omega.{arith}
+use lib.Dec.{eqb, leb}
+use lib.ListN.{length}
+use borrow.Author.Tests.{eqb-true, eqb-false, leb-false}
+use Rattle.model.specs.Sheet.{Mark, same, belowX}
+use Rattle.model.proofs.Logic.{by-cases}
+use Rattle.table.specs.Layout.{mainPlace, rootPlace, deepest, damaged}
+use Rattle.table.specs.Marks.{slotMark}
+use Rattle.nodes.specs.Arms.{armAt, recordAt}
+use Rattle.twofold.specs.Sound.{capacityOf}
+use Rattle.primary_search.specs.Find.{absent, findLeaf, findNode, findBeneath♯, findRoot, find♯}
+use Rattle.primary_search.specs.Sought.{Leads, leaf, left, right, Finds, Lacks, none, other}
+
+module _ (xs : List ℕ) (m : Mark) where
+  abbrev C : ℕ
+  C = capacityOf xs
+
+  -- what a walk from a node has come to: nowhere, or the leaf of a slot, of the mark or of another
+  data Came (n : ℕ) : ℕ → Type 0 where
+    lost : Came n damaged
+    found : {s : ℕ} → s < C → Leads xs m n s → same m (slotMark xs s) ≡ true → Came n s
+    missed : {s : ℕ} → Leads xs m n s → same m (slotMark xs s) ≡ false → Came n absent
+
+  at-leaf : (s : ℕ) → s < C → Came (2 * s) (findLeaf xs m s)
+  unfolding findLeaf
+  at-leaf s below = by-cases (same m (slotMark xs s)) (λ t. rw t (found below (leaf below) t)) (λ f. rw f (missed (leaf below) f))
+
+  -- a step from a node to a child
+  from-child : {n k r : ℕ} → ((s : ℕ) → Leads xs m k s → Leads xs m n s) → Came k r → Came n r
+  from-child step lost = lost
+  from-child step (found below way t) = found below (step _ way) t
+  from-child step (missed way f) = missed (step _ way) f
+
+  came : (f n : ℕ) → Came n (findBeneath♯ f xs C m n)
+  unfolding findBeneath♯ findNode
+  came zero n = lost
+  came (suc f) n =
+      by-cases (leb C (n / 2))
+      (λ t. rw t lost)
+      (λ u.
+      let s = n / 2 in
+      let below = leb-false C s u in
+      by-cases (eqb (n % 2) 0)
+      (λ t.
+      let e : 2 * s ≡ n = omega (arith, eqb-true (n % 2) 0 t) in
+      rw (u, t) (subst (λ k. Came k (findLeaf xs m s)) e (at-leaf s below)))
+      (λ v.
+      let e : 2 * s + 1 ≡ n = omega (arith, eqb-false (n % 2) 0 v) in
+      by-cases (belowX m (slotMark xs s))
+      (λ t. rw (u, v, t) (from-child (λ slot way. subst (λ k. Leads xs m k slot) e (left below t way)) (came f (recordAt xs (mainPlace s) .left .node))))
+      (λ w. rw (u, v, w) (from-child (λ slot way. subst (λ k. Leads xs m k slot) e (right below w way)) (came f (recordAt xs (mainPlace s) .right .node))))))
+
+  -- no slot is one of the two values
+  module _ (small : C < absent) where
+    came-found : {r : ℕ} → armAt xs rootPlace .weight ≢ 0 → Came (armAt xs rootPlace .node) r → r ≢ damaged → r ≢ absent → Finds xs m r
+    came-found some lost d a = absurd (d refl)
+    came-found some (found below way t) d a = record { some = some; leads = way; has = t }
+    came-found some (missed way f) d a = absurd (a refl)
+
+    came-missed : {r : ℕ} → armAt xs rootPlace .weight ≢ 0 → Came (armAt xs rootPlace .node) r → r ≡ absent → Lacks xs m
+    came-missed some lost a = absurd (omega arith)
+    came-missed some (found below way t) a = absurd (omega (arith, small, below))
+    came-missed some (missed way f) a = other some way f
+
+    pub find-finds : find♯ xs m ≢ damaged → find♯ xs m ≢ absent → Finds xs m (find♯ xs m)
+    unfolding find♯ findRoot
+    find-finds d a =
+        by-cases (eqb (armAt xs rootPlace .weight) 0)
+        (λ t. absurd (a (rw t)))
+        (λ f. by-cases (leb (64 + 16 * C) (length xs))
+        (λ t. rw (f, t) (came-found (eqb-false (armAt xs rootPlace .weight) 0 f) (came deepest (armAt xs rootPlace .node)) (rw (f, t) at d) (rw (f, t) at a)))
+        (λ u. absurd (d (rw (f, u)))))
+
+    pub find-lacks : find♯ xs m ≡ absent → Lacks xs m
+    unfolding find♯ findRoot
+    find-lacks a =
+        by-cases (eqb (armAt xs rootPlace .weight) 0)
+        (λ t. none (eqb-true (armAt xs rootPlace .weight) 0 t))
+        (λ f. by-cases (leb (64 + 16 * C) (length xs))
+        (λ t. came-missed (eqb-false (armAt xs rootPlace .weight) 0 f) (came deepest (armAt xs rootPlace .node)) (rw (f, t) at a))
+        (λ u. absurd (let z = (rw (f, u) at a) in omega arith)))
