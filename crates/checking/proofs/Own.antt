@@ -11,11 +11,12 @@ use borrow.Author.Tests.{le-ltb, ltb-false, eq-eqb, eqb-true, not-false}
 use Rattle.model.specs.Lists.{if_then_else_}
 use Rattle.model.specs.Sizes.{D, W, capacityOutside}
 use Rattle.model.proofs.Logic.{by-cases, or-neither}
-use Rattle.model.proofs.Sizes.{capacity-some}
-use Rattle.sizes.specs.Sizes.{wordsFor}
+use Rattle.model.proofs.Sizes.{capacity-some, capacity-small}
+use Rattle.sizes.specs.Sizes.{wordsFor, visitsWithin, visitsFor}
+use Rattle.sizes.proofs.Sizes.{levelsFor-within, levelsFor-most, visits-fit}
 use Rattle.table.specs.Layout.{openPlace}
 use Rattle.twofold.specs.Sound.{capacityOf, liveOf}
-use Rattle.checking.specs.Header.{notTable, ownWords}
+use Rattle.checking.specs.Header.{notTable, ownWords, ownVisits}
 
 -- the words that a table needs are no fewer than the 96 of the first test
 W-least : (c : ℕ) → 1 ≤ c → 96 ≤ W c
@@ -57,12 +58,40 @@ module _ (xs : List ℕ) where
         omega arith,
       )
 
-  -- no words are needed for a capacity out of range, so the code does not ask for the capacity itself
-  pub own-words : 96 ≤ length xs → eqb (getD xs openPlace 0) 1 ≡ true
-      → ownWords xs ≡ (if ltb (length xs) (wordsFor (capacityOf xs)) then 0 else (if ltb (capacityOf xs) (liveOf xs) then 0 else wordsFor (capacityOf xs)))
-  unfolding ownWords notTable
-  own-words h isOpen =
-      rw (le-ltb (length xs) 96 h, isOpen) (
-      by-cases (capacityOutside (capacityOf xs))
-      (λ t. rw (t, le-ltb (length xs) 0 (omega arith)) (by-cases (ltb (capacityOf xs) (liveOf xs)) (λ u. rw u) (λ u. rw u)))
-      (λ f. rw f (by-cases (ltb (length xs) (W (capacityOf xs))) (λ u. rw u) (λ u. rw u))))
+  -- what is asked for a capacity out of range is 0, so the code does not ask for the capacity itself
+  module _ (h : 96 ≤ length xs) (isOpen : eqb (getD xs openPlace 0) 1 ≡ true) where
+    own-asked : (inside : ℕ)
+        → (if notTable xs then 0 else inside) ≡ (if ltb (length xs) (wordsFor (capacityOf xs)) then 0
+        else (if ltb (capacityOf xs) (liveOf xs) then 0 else (if capacityOutside (capacityOf xs) then 0 else inside)))
+    unfolding notTable
+    own-asked inside =
+        rw (le-ltb (length xs) 96 h, isOpen) (
+        by-cases (capacityOutside (capacityOf xs))
+        (λ t. rw (t, le-ltb (length xs) 0 (omega arith)) (by-cases (ltb (capacityOf xs) (liveOf xs)) (λ u. rw u) (λ u. rw u)))
+        (λ f. rw f (by-cases (ltb (length xs) (W (capacityOf xs))) (λ u. rw u) (λ u. rw u))))
+
+    pub own-words : ownWords xs ≡ (if ltb (length xs) (wordsFor (capacityOf xs)) then 0
+        else (if ltb (capacityOf xs) (liveOf xs) then 0 else wordsFor (capacityOf xs)))
+    unfolding ownWords
+    own-words = own-asked (W (capacityOf xs))
+
+    pub own-visits : ownVisits xs ≡ (if ltb (length xs) (wordsFor (capacityOf xs)) then 0
+        else (if ltb (capacityOf xs) (liveOf xs) then 0 else visitsFor (capacityOf xs)))
+    unfolding ownVisits
+    own-visits = own-asked (visitsWithin (capacityOf xs))
+
+  -- where 3 does not apply
+  pub own-most : (ownWords xs ≡ 0 → ⊥) → ownVisits xs ≡ visitsWithin (capacityOf xs)
+  unfolding ownWords ownVisits
+  own-most z = by-cases (notTable xs) (λ t. absurd (z (rw t))) (λ f. rw f)
+
+  pub own-visits-few : ownVisits xs ≤ 11781
+  unfolding ownVisits notTable visitsWithin
+  own-visits-few =
+      by-cases (notTable xs)
+      (λ t. rw t (omega arith))
+      (λ f.
+      let c = capacityOf xs in
+      let long = or-neither (ltb (length xs) 96) _ f .1 in
+      let inside = or-neither (capacityOutside c) _ (or-neither (not (eqb (getD xs openPlace 0) 1)) _ long .1) .0 in
+      rw f (visits-fit (D c) (omega (arith, levelsFor-most c, levelsFor-within c (capacity-small c inside)))))

@@ -7,6 +7,7 @@ use lib.Dec.{ltb, eqb}
 use lib.ListN.{length, getD}
 use Rattle.model.specs.Lists.{if_then_else_}
 use Rattle.model.specs.Sizes.{W, capacityOutside}
+use Rattle.sizes.specs.Sizes.{visitsWithin}
 use Rattle.table.specs.Layout.{openPlace}
 use Rattle.twofold.specs.Sound.{capacityOf, liveOf}
 
@@ -18,6 +19,9 @@ notTable xs =
     || (ltb (length xs) (W (capacityOf xs))
     || ltb (capacityOf xs) (liveOf xs))))
 
--- the table's own words; 0 where 3 applies
+-- the table's own words, and the most visits of a count in a sound table of its capacity; 0 where 3 applies
 unfoldable pub ownWords : List ℕ → ℕ
 ownWords xs = if notTable xs then 0 else W (capacityOf xs)
+
+unfoldable pub ownVisits : List ℕ → ℕ
+ownVisits xs = if notTable xs then 0 else visitsWithin (capacityOf xs)

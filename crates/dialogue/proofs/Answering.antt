@@ -33,8 +33,8 @@ module _ (c : Command) (call : Call) (before after : Lent) (a : Answer) (p : Per
 -- `which` tells an accepted list from a refusal
 later-accepted : {xs : List ℕ} {b : Box} {m n : ℕ} {a : Answer} → Later xs (history.list b m n) a → a .which ≢ 0
     → (a .number ≡ 0) × (3 * length (a .listed) ≤ m)
-later-accepted (short h) k = absurd (k refl)
-later-accepted (lists h i) k = (refl, h)
+later-accepted (short t h) k = absurd (k refl)
+later-accepted (lists t h i) k = (refl, h)
 later-accepted (unsound o h) k = absurd (k refl)
 
 module _ (b : Box) (before after : Lent) (f : ListFigures) where

@@ -25,6 +25,7 @@ use Rattle.model.proofs.Tree.{weight-marks}
 use Rattle.model.proofs.TwoFold.{Agrees, open-agrees, count-agrees, count-visits, list-agrees, list-visits}
 use Rattle.table.specs.Marks.{slotMark, markWords}
 use Rattle.nodes.specs.Holds.{timesIn}
+use Rattle.sizes.specs.Sizes.{visitsWithin}
 use Rattle.table.specs.Tally.{mostVisits, pack}
 use Rattle.table.specs.After.{after}
 use Rattle.nodes.proofs.Levels.{most-levels, held-shallow}
@@ -37,6 +38,7 @@ use Rattle.primary_search.specs.List.{mainList♯}
 use Rattle.primary_search.proofs.Finding.{find-none, find-holds, find-absent}
 use Rattle.primary_search.proofs.Counting.{count-none, count-main-holds}
 use Rattle.primary_search.proofs.Listing.{mainMet, mainMet-listed, list-none, list-main-holds}
+use Rattle.twofold.proofs.Over.{two-main}
 use Rattle.twofold.specs.Sound.{capacityOf, HoldsTree, TreeByRules, Holding}
 use Rattle.twofold.proofs.Sound.{live-slots, live-within}
 
@@ -51,9 +53,9 @@ slot-of f m (q ∷ l) h =
     let a = slot-of f m l (omega arith) in
     (a .0, omega (arith, a .1), a .2))
 
--- (4 D + 1) (2 D + 1) is no more than at D = 38
-budget-most : (d : ℕ) → d ≤ 38 → (4 * d + 1) * (2 * d + 1) ≤ mostVisits
-budget-most d h = mul-le-mul {n₁ = 4 * d + 1} {m₁ = 2 * d + 1} {n₂ = 153} {m₂ = 77} (omega arith) (omega arith)
+-- (4 D + 1) (2 D + 1) rises with D
+budget-rises : (d e : ℕ) → d ≤ e → (4 * d + 1) * (2 * d + 1) ≤ (4 * e + 1) * (2 * e + 1)
+budget-rises d e h = mul-le-mul {n₁ = 4 * d + 1} {m₁ = 2 * d + 1} {n₂ = 4 * e + 1} {m₂ = 2 * e + 1} (omega arith) (omega arith)
 
 module _ (xs : List ℕ) where
   agrees-of : (o : Option SlotMain) → TreeByRules xs o → Agrees (marksMain (slotMark xs) o) (marksOf (marksMain (slotMark xs) o))
@@ -61,22 +63,22 @@ module _ (xs : List ℕ) where
   agrees-of (some t) r =
       subst (Agrees (marksMain (slotMark xs) (some t))) (sym (stands-marks (slotMark xs) (some t))) (rules-agrees (slotMark xs) t r)
 
-  find-of : (o : Option SlotMain) → HoldsTree xs o → TreeByRules xs o → capacityOf xs ≤ 65536 → (s : ℕ) → 0 < timesIn s (marksOf o)
+  find-of : (o : Option SlotMain) → HoldsTree xs o → TreeByRules xs o → capacityOf xs ≤ 65536 → 64 + 16 * capacityOf xs ≤ length xs → (s : ℕ) → 0 < timesIn s (marksOf o)
       → (find♯ xs (slotMark xs s) ≡ s) × (s < capacityOf xs) × (timesIn s (marksOf o) ≡ 1)
-  find-of none k r small s n = absurd (omega arith)
-  find-of (some t) k r small s n =
+  find-of none k r small room s n = absurd (omega arith)
+  find-of (some t) k r small room s n =
       let g = k .1 .main in (
-        find-holds (slotMark xs) (capacityOf xs) xs t (k .0) g (r .sorted) (omega (arith, held-shallow g (r .balanced) small)) s n,
+        find-holds (slotMark xs) (capacityOf xs) xs t (k .0) refl room g (r .sorted) (omega (arith, held-shallow g (r .balanced) small)) s n,
         g .within s n,
         omega (arith, g .once s),
       )
 
-  missing-of : (o : Option SlotMain) → HoldsTree xs o → TreeByRules xs o → capacityOf xs ≤ 65536 → (m : Mark)
+  missing-of : (o : Option SlotMain) → HoldsTree xs o → TreeByRules xs o → capacityOf xs ≤ 65536 → 64 + 16 * capacityOf xs ≤ length xs → (m : Mark)
       → countIf (λ s. same m (slotMark xs s)) (marksOf o) ≡ 0 → find♯ xs m ≡ absent
-  missing-of none k r small m n = find-none xs m k
-  missing-of (some t) k r small m n =
+  missing-of none k r small room m n = find-none xs m k
+  missing-of (some t) k r small room m n =
       let g = k .1 .main in
-      find-absent (slotMark xs) (capacityOf xs) xs t (k .0) g (omega (arith, held-shallow g (r .balanced) small)) m n
+      find-absent (slotMark xs) (capacityOf xs) xs t (k .0) refl room g (omega (arith, held-shallow g (r .balanced) small)) m n
 
   count-of : (o : Option SlotMain) → HoldsTree xs o → TreeByRules xs o → capacityOf xs ≤ 65536 → (b : Box) → boxCrossed b ≡ false
       → slotMain (slotMark xs) .count b o .visits ≤ mostVisits
@@ -121,6 +123,9 @@ module _ (xs : List ℕ) (T : Main) (h : Holding xs T) where
   pub holding-small : capacityOf xs ≤ 65536
   holding-small = capacity-small (capacityOf xs) (h .capacity)
 
+  holding-room : 64 + 16 * capacityOf xs ≤ length xs
+  holding-room = let r = two-main holding-small (h .long) .runRoom in omega arith
+
   -- the marks are those of the slots
   pub holding-marks : marksOf T ≡ map (slotMark xs) (marksOf (h .slots))
   holding-marks = ap marksOf (sym (h .stands)) ∙ stands-marks (slotMark xs) (h .slots)
@@ -146,13 +151,13 @@ module _ (xs : List ℕ) (T : Main) (h : Holding xs T) where
       → (find♯ xs m < capacityOf xs) × (slotMark xs (find♯ xs m) ≡ m) × (timesIn (find♯ xs m) (marksOf (h .slots)) ≡ 1)
   find-sound m n =
       let a = slot-of (slotMark xs) m (marksOf (h .slots)) (subst (λ l. 0 < countIf (same m) l) holding-marks n) in
-      let k = find-of xs (h .slots) (h .holds) (h .rules) holding-small (a .0) (a .1) in
+      let k = find-of xs (h .slots) (h .holds) (h .rules) holding-small holding-room (a .0) (a .1) in
       let e : find♯ xs m ≡ a .0 = ap (find♯ xs) (a .2) ∙ k .0 in
       rw e (k .1, sym (a .2), k .2)
 
   pub find-missing : (m : Mark) → countIf (same m) (marksOf T) ≡ 0 → find♯ xs m ≡ absent
   find-missing m n =
-      missing-of xs (h .slots) (h .holds) (h .rules) holding-small m
+      missing-of xs (h .slots) (h .holds) (h .rules) holding-small holding-room m
       (sym (countIf-map (slotMark xs) (same m) (marksOf (h .slots))) ∙ ap (countIf (same m)) (sym holding-marks) ∙ n)
 
   module _ (b : Box) where
@@ -163,10 +168,15 @@ module _ (xs : List ℕ) (T : Main) (h : Holding xs T) where
     pub count-budget : main .count b T .visits ≤ (4 * D (length (marksOf T)) + 1) * (2 * D (length (marksOf T)) + 1)
     count-budget = count-visits b T (marksOf T) holding-agrees
 
+    -- the bound of the table's own capacity, and of the largest
+    pub count-within : main .count b T .visits ≤ visitsWithin (capacityOf xs)
+    unfolding visitsWithin
+    count-within = omega (arith, count-budget, budget-rises (D (length (marksOf T))) (D (capacityOf xs)) holding-levels)
+
     pub count-most : main .count b T .visits ≤ mostVisits
     count-most =
         let few : D (length (marksOf T)) ≤ 38 = omega (arith, holding-levels, most-levels (capacityOf xs) holding-small) in
-        omega (arith, count-budget, budget-most (D (length (marksOf T))) few)
+        omega (arith, count-budget, budget-rises (D (length (marksOf T))) 38 few)
 
     stands-found : slotMain (slotMark xs) .count b (h .slots) ≡ main .count b T
     stands-found = stands-count (slotMark xs) b (h .slots) ∙ ap (main .count b) (h .stands)
@@ -177,6 +187,9 @@ module _ (xs : List ℕ) (T : Main) (h : Holding xs T) where
         ∙ ap (λ a. pack (a .found) (a .visits)) stands-found
 
     -- the list
+    pub list-within : main .list b T .visits ≤ visitsWithin (capacityOf xs) + 2 * countIf (holds b) (marksOf T)
+    list-within = omega (arith, list-visits b T (marksOf T) holding-agrees, count-within)
+
     pub list-most : main .list b T .visits ≤ mostVisits + 2 * countIf (holds b) (marksOf T)
     list-most = omega (arith, list-visits b T (marksOf T) holding-agrees, count-most)
 

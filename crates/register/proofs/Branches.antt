@@ -3,19 +3,19 @@ use Prim.Native.Nat.{ℕ, _+_, _*_, _-_, _/_, _%_, _≤_, _<_}
 use mathlib.Core.Path.{_≡_, refl, sym, ap, subst, _∙_}
 use mathlib.Core.Logic.{_⊎_, inl, inr}
 use mathlib.Core.List.{List, _++_}
-use lib.ListN.{take, drop, length}
+use lib.ListN.{take, drop, length, getD}
 use native.Mathlib.Nat.{sub-zero}
 use borrow.Author.Tests.{eq-eqb, ne-eqb}
 use Rattle.model.specs.Sheet.{Mark, Box}
 use Rattle.model.specs.Refusals.{Outcome, accepted, refused, openTable, enterMark, enterBox}
 use Rattle.model.specs.History.{Answer, refusal, updated, whichList}
 use Rattle.table.specs.After.{After, after}
-use Rattle.table.specs.Tally.{mostVisits}
+use Rattle.table.specs.Layout.{livePlace}
 use Rattle.primary_search.specs.Count.{mainCount♯}
 use Rattle.primary_search.specs.List.{mainList♯}
 use Rattle.sorting.specs.Sorted.{SortedIn}
 use Rattle.primary.specs.Empty.{empty♯}
-use Rattle.checking.specs.Header.{ownWords}
+use Rattle.checking.specs.Header.{ownWords, ownVisits}
 use Rattle.register.specs.Mirrors.{within, onAccepted, open♯, onTable, updateOwn, orNumber, countOwn♯, count♯}
 use Rattle.register.specs.Mirrors.{ListedOwn, ListsOwn, lost, short, lists, Lists, notTable, crossed, onOwn}
 use Rattle.register.specs.Answers.{ListFigures, listRefused}
@@ -46,9 +46,9 @@ module _ (xs : List ℕ) (n : ℕ) (own : n ≡ ownWords xs) where
       unfolding count♯ orNumber
       count-crossed k e = rw (← own, ne-eqb n 0 some, e)
 
-      pub count-own : (b′ : Box) → enterBox b ≡ accepted b′ → (a : Answer) → a ≡ countOwn♯ b′ (take (n - 0) xs) → a ≡ count♯ b xs
+      pub count-own : (v : ℕ) → v ≡ ownVisits xs → (b′ : Box) → enterBox b ≡ accepted b′ → (a : Answer) → a ≡ countOwn♯ v b′ (take (n - 0) xs) → a ≡ count♯ b xs
       unfolding count♯ orNumber
-      count-own b′ e a h = rw (← own, ne-eqb n 0 some, e, ← sub-zero n, ← h)
+      count-own v ev b′ e a h = rw (← own, ne-eqb n 0 some, e, ← sub-zero n, ← ev, ← h)
 
 module _ (xs : List ℕ) (c : ℕ) where
   pub open-refused : (k : ℕ) → openTable c (length xs) ≡ refused k → after (refusal k 0) xs ≡ open♯ c xs
@@ -61,44 +61,47 @@ module _ (xs : List ℕ) (c : ℕ) where
   open-own n e x h = let k = (rw (sub-zero n) at h) in rw (e, sub-zero n, ← k)
 
 -- the k marks that a count has found are listed into the leading part x of the first list, and sorted
-pub list-marks : (b : Box) (k : ℕ) (xs first second first′ second′ x : List ℕ) (tally visits which : ℕ)
-    → after tally x ≡ mainList♯ xs b (mostVisits + 2 * k) (take (3 * k - 0) first) → length x ≡ length (take (3 * k - 0) first)
+pub list-marks : (b : Box) (most k : ℕ) (xs first second first′ second′ x : List ℕ) (tally visits which : ℕ)
+    → after tally x ≡ mainList♯ xs b (most + 2 * k) (take (3 * k - 0) first) → length x ≡ length (take (3 * k - 0) first)
     → visits ≡ tally % 4294967296 → which ≡ whichList k
     → SortedIn k (x ++ drop (3 * k - 0) first) second first′ second′
-    → ListedOwn b k xs first second first′ second′ (record { number = 0; k = k; visits = visits; which = which })
-list-marks b k xs first second first′ second′ x tally visits which listed many ev ew sorted =
+    → ListedOwn b most k xs first second first′ second′ (record { number = 0; k = k; visits = visits; which = which })
+list-marks b most k xs first second first′ second′ x tally visits which listed many ev ew sorted =
     let h = (rw (sub-zero (3 * k)) at listed) in
     let l = (rw (sub-zero (3 * k)) at many) in
     let s = (rw (sub-zero (3 * k)) at sorted) in
     record { long = rw (← h) l; figures = rw (ev, ew, ← h); sorted = rw (← h) s }
 
-module _ (b : Box) (xs first second : List ℕ) (t v k : ℕ) (et : t ≡ mainCount♯ xs b) (ev : v ≡ t % 4294967296) (ek : k ≡ t / 4294967296) where
+module _ (b : Box) (most : ℕ) (xs first second : List ℕ) (t v k : ℕ) (et : t ≡ mainCount♯ xs b) (ev : v ≡ t % 4294967296) (ek : k ≡ t / 4294967296) where
   visits-is : v ≡ mainCount♯ xs b % 4294967296
   visits-is = ev ∙ ap (λ t. t % 4294967296) et
 
   found-is : k ≡ mainCount♯ xs b / 4294967296
   found-is = ek ∙ ap (λ t. t / 4294967296) et
 
-  pub list-lost : mostVisits < v → ListsOwn b xs first second first second (listRefused 4 0)
-  list-lost h = lost (inl (subst (λ n. mostVisits < n) visits-is h))
+  pub list-lost : most < v → ListsOwn b most xs first second first second (listRefused 4 0)
+  list-lost h = lost (inl (subst (λ n. most < n) visits-is h))
 
-  pub list-many : 65536 < k → ListsOwn b xs first second first second (listRefused 4 0)
-  list-many h = lost (inr (subst (λ n. 65536 < n) found-is h))
+  pub list-many : getD xs livePlace 0 < k → ListsOwn b most xs first second first second (listRefused 4 0)
+  list-many h = lost (inr (subst (λ n. getD xs livePlace 0 < n) found-is h))
 
-  module _ (few : v ≤ mostVisits) where
-    few-is : mainCount♯ xs b % 4294967296 ≤ mostVisits
-    few-is = subst (λ n. n ≤ mostVisits) visits-is few
+  module _ (soon : v ≤ most) (few : k ≤ getD xs livePlace 0) where
+    soon-is : mainCount♯ xs b % 4294967296 ≤ most
+    soon-is = subst (λ n. n ≤ most) visits-is soon
 
-    pub list-short : (length first < 3 * k) ⊎ (length second < 3 * k) → ListsOwn b xs first second first second (listRefused 10 k)
+    few-is : mainCount♯ xs b / 4294967296 ≤ getD xs livePlace 0
+    few-is = subst (λ n. n ≤ getD xs livePlace 0) found-is few
+
+    pub list-short : (length first < 3 * k) ⊎ (length second < 3 * k) → ListsOwn b most xs first second first second (listRefused 10 k)
     list-short h =
-        subst (λ n. ListsOwn b xs first second first second (listRefused 10 n)) (sym found-is)
-        (short few-is (subst (λ n. (length first < 3 * n) ⊎ (length second < 3 * n)) found-is h))
+        subst (λ n. ListsOwn b most xs first second first second (listRefused 10 n)) (sym found-is)
+        (short soon-is few-is (subst (λ n. (length first < 3 * n) ⊎ (length second < 3 * n)) found-is h))
 
     pub list-lists : (first′ second′ : List ℕ) (f : ListFigures) → 3 * k ≤ length first → 3 * k ≤ length second
-        → ListedOwn b k xs first second first′ second′ f → ListsOwn b xs first second first′ second′ f
+        → ListedOwn b most k xs first second first′ second′ f → ListsOwn b most xs first second first′ second′ f
     list-lists first′ second′ f p q h =
-        lists few-is (subst (λ n. 3 * n ≤ length first) found-is p) (subst (λ n. 3 * n ≤ length second) found-is q)
-        (subst (λ n. ListedOwn b n xs first second first′ second′ f) found-is h)
+        lists soon-is few-is (subst (λ n. 3 * n ≤ length first) found-is p) (subst (λ n. 3 * n ≤ length second) found-is q)
+        (subst (λ n. ListedOwn b most n xs first second first′ second′ f) found-is h)
 
 module _ (b : Box) (xs first second : List ℕ) (n : ℕ) (own : n ≡ ownWords xs) where
   pub list-not-table : n ≡ 0 → Lists b xs first second first second (listRefused 3 0)
@@ -111,7 +114,8 @@ module _ (b : Box) (xs first second : List ℕ) (n : ℕ) (own : n ≡ ownWords 
     pub list-crossed : (k : ℕ) → enterBox b ≡ refused k → Lists b xs first second first second (listRefused k 0)
     list-crossed k e = crossed owns e
 
-    pub list-own : (b′ : Box) (first′ second′ : List ℕ) (f : ListFigures) → enterBox b ≡ accepted b′
-        → ListsOwn b′ (take (n - 0) xs) first second first′ second′ f → Lists b xs first second first′ second′ f
-    list-own b′ first′ second′ f e h =
-        onOwn owns e (subst (λ k. ListsOwn b′ (take k xs) first second first′ second′ f) (sub-zero n ∙ own) h)
+    pub list-own : (v : ℕ) → v ≡ ownVisits xs → (b′ : Box) (first′ second′ : List ℕ) (f : ListFigures) → enterBox b ≡ accepted b′
+        → ListsOwn b′ v (take (n - 0) xs) first second first′ second′ f → Lists b xs first second first′ second′ f
+    list-own v ev b′ first′ second′ f e h =
+        onOwn owns e (subst (λ v. ListsOwn b′ v (take (ownWords xs) xs) first second first′ second′ f) ev
+        (subst (λ k. ListsOwn b′ v (take k xs) first second first′ second′ f) (sub-zero n ∙ own) h))

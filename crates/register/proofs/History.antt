@@ -12,22 +12,29 @@ use Rattle.model.specs.Sizes.{W, capacityOutside}
 use Rattle.model.specs.Refusals.{openTable}
 use Rattle.model.proofs.Logic.{by-cases, clash}
 use Rattle.model.specs.History.{Call, openFor, State, Answer, updated, answer, next}
-use Rattle.model.proofs.History.{open-right, StepRight, Along, run-right}
+use Rattle.model.proofs.History.{Right, open-right, StepRight, Along, run-right}
+use Rattle.model.specs.Sheet.{sheet, alongX}
+use Rattle.model.proofs.Orders.{sheet-sameness, alongX-laws}
+use Rattle.model.proofs.Sorted.{sorted-distinct}
 use Rattle.table.specs.Marks.{markWords}
 use Rattle.register.specs.Answers.{inList}
 use Rattle.register.specs.Performs.{Lent, early, Later, opens, unsound, Performs}
 use Rattle.register.proofs.Stands.{Stands, call-follows}
 use Rattle.register.specs.Run.{Made, Calls, none, then, Run, AsPlain, Beside, nothing, andThen}
 
--- what a call gave and what is right of the history's step
-as-plain : (s : State) (m : Made) → Performs (m .call) (m .before) (m .after) (m .answer) → m .answer ≡ answer (m .call) s → StepRight (m .call) s → AsPlain s m
-as-plain s m p e r = record {
+-- what a call gave, and what is right of the history's step and of the state that it leaves
+as-plain : (s : State) (m : Made) → Performs (m .call) (m .before) (m .after) (m .answer) → m .answer ≡ answer (m .call) s → StepRight (m .call) s
+    → Right (next (m .call) s) → AsPlain s m
+as-plain s m p e r left = record {
   answers = e;
   words = subst (λ a. take (3 * length (a .listed)) (inList (m .answer .which) (m .after .first) (m .after .second)) ≡ markWords (a .listed)) e
       (p .leavesLists .answer);
   not-3 = λ z. r .not-3 (ap (λ a. a .number) (sym e) ∙ z);
   not-4 = λ z. r .not-4 (ap (λ a. a .number) (sym e) ∙ z);
   visits = rw e (r .visits);
+  ascending = left .agrees .sorted;
+  once = sorted-distinct {S = sheet} {A = alongX} sheet-sameness alongX-laws (left .agrees .sorted);
+  fits = left .fits;
 }
 
 -- what the calls of a run were asked
@@ -40,7 +47,7 @@ calls : {xs : List ℕ} {ms : List Made} → Calls xs ms → (s : State) → Sta
 calls none s h r = nothing
 calls (then {m = m} p rest) s h r =
     let k = call-follows p h in
-    andThen (as-plain s m p (k .0) (r .0)) (calls rest (next (m .call) s) (k .1) (r .1))
+    andThen (as-plain s m p (k .0) (r .0) (k .1 .right)) (calls rest (next (m .call) s) (k .1) (r .1))
 
 -- an accepted open gives what the history's step gives, whatever state stood before
 open-accepted : (c words : ℕ) (s : State) → early (openFor c words) [] ≡ 0 → answer (openFor c words) s ≡ updated 0 0
@@ -89,5 +96,5 @@ history {m = m} {ms = ms} r s = go (r .calls)
         let k = open-stands c (r .words) (m .before) (m .after) (m .answer) (subst (λ c. Performs c (m .before) (m .after) (m .answer)) e p) (r .accepted) s in
         let number : answer (openFor c (r .words)) s .number ≡ 0 = sym (ap (λ a. a .number) (k .0)) ∙ r .accepted in
         let steps = subst (λ c. Along StepRight (c ∷ asked ms) s) (sym e) (run-right s c (r .words) (asked ms) number) in
-        andThen (as-plain s m p (k .0 ∙ ap (λ c. answer c s) (sym e)) (steps .0))
-        (calls rest (next (m .call) s) (subst (λ c. Stands (m .after .table) (next c s)) (sym e) (k .1)) (steps .1))
+        let stands = subst (λ c. Stands (m .after .table) (next c s)) (sym e) (k .1) in
+        andThen (as-plain s m p (k .0 ∙ ap (λ c. answer c s) (sym e)) (steps .0) (stands .right)) (calls rest (next (m .call) s) stands (steps .1))

@@ -19,25 +19,27 @@ use Rattle.model.specs.History as history
 use Rattle.model.proofs.Logic.{by-cases, or-true-right}
 use Rattle.model.proofs.Lists.{countIf-length, filterBy-length}
 use Rattle.table.specs.Marks.{listMarks, markWords}
-use Rattle.table.specs.Tally.{mostVisits, pack}
+use Rattle.table.specs.Tally.{pack}
 use Rattle.table.specs.After.{after}
 use Rattle.table.proofs.Lists.{markWords-length}
-use Rattle.twofold.specs.Sound.{capacityOf, Holding, SoundTable}
+use Rattle.sizes.specs.Sizes.{visitsWithin}
+use Rattle.twofold.specs.Sound.{capacityOf, liveOf, Holding, SoundTable}
 use Rattle.primary_search.specs.Count.{mainCount♯}
 use Rattle.primary_search.specs.List.{mainList♯}
 use Rattle.primary.proofs.Searching as searching
-use Rattle.primary.proofs.Searching.{holding-within, holding-small, count-most, list-most, list-sound}
+use Rattle.primary.proofs.Searching.{holding-within, holding-small, count-most, list-within, list-most, list-sound}
 use Rattle.sorting.specs.Sorted.{sortedWords, SortedIn}
 use Rattle.sorting.proofs.Words.{listMarks-length, listMarks-words, words-listMarks}
 use Rattle.sorting.proofs.Sorting.{listMarks-take}
-use Rattle.checking.specs.Header.{ownWords}
+use Rattle.checking.specs.Header.{ownWords, ownVisits}
+use Rattle.checking.proofs.Own.{own-visits-few}
 use Rattle.register.specs.Answers.{ListFigures, listRefused, inList, marksIn, listGiven}
-use Rattle.register.specs.Performs.{lends, early, own, Later, unsound, LeavesLists, stateOf, Performs}
+use Rattle.register.specs.Performs.{lends, early, own, CountsTo, Later, unsound, LeavesLists, stateOf, Performs}
 use Rattle.register.specs.Performs as performs
 use Rattle.register.specs.Mirrors.{ListedOwn, ListsOwn, lost, short, lists, Lists, notTable, crossed, onOwn}
 use Rattle.register.proofs.Own.{own-none, own-some, own-is, sound-table}
 use Rattle.register.proofs.Performing.{performs-kept, refused-early, refused-later}
-use Rattle.register.proofs.Reading.{pack-visits, pack-found, visits-sound, found-sound}
+use Rattle.register.proofs.Reading.{pack-visits, pack-found, visits-sound, found-sound, own-limit, counts-to, damage-unsound}
 
 -- the passes tell one of the two lists
 which-some : (k : ℕ) → whichList k ≢ 0
@@ -65,10 +67,10 @@ module _ (k v : ℕ) (first second : List ℕ) where
 -- THE ACCEPTED LIST
 
 -- k marks of a box were listed from the own words and sorted
-module _ (b : Box) (k : ℕ) (xs first second first′ second′ : List ℕ) (roomFirst : 3 * k ≤ length first) (roomSecond : 3 * k ≤ length second)
+module _ (b : Box) (limit k : ℕ) (xs first second first′ second′ : List ℕ) (roomFirst : 3 * k ≤ length first) (roomSecond : 3 * k ≤ length second)
     (sameFirst : length first′ ≡ length first) (sameSecond : length second′ ≡ length second) where
   abbrev most : ℕ
-  most = mostVisits + 2 * k
+  most = limit + 2 * k
 
   -- the leading part of the first list, before and after the search, and the visits
   abbrev part : List ℕ
@@ -103,7 +105,8 @@ module _ (b : Box) (k : ℕ) (xs first second first′ second′ : List ℕ) (ro
         }
 
     -- on a sound one, whose count gave k
-    module _ (T : Main) (h : Holding (own xs) T) (many : k ≡ countIf (holds b) (marksOf T)) where
+    module _ (is : limit ≡ visitsWithin (capacityOf (own xs))) (small : limit ≤ 11781) (T : Main) (h : Holding (own xs) T)
+        (many : k ≡ countIf (holds b) (marksOf T)) where
       abbrev plain : List Mark
       plain = filterBy (holds b) (marksOf T)
 
@@ -115,7 +118,7 @@ module _ (b : Box) (k : ℕ) (xs first second first′ second′ : List ℕ) (ro
 
       -- what the search met, written whole
       found : searching.Lists (own xs) T b most part
-      found = list-sound (own xs) T h b most part (omega (arith, list-most (own xs) T h b)) (omega (arith, few)) (omega (arith, part-length))
+      found = list-sound (own xs) T h b most part (omega (arith, is, many, list-within (own xs) T h b)) (omega (arith, few)) (omega (arith, part-length))
 
       found-length : length (markWords (found .met)) ≡ 3 * k
       found-length = markWords-length (found .met) ∙ ap (λ n. 3 * n) (found .many ∙ sym many)
@@ -183,18 +186,6 @@ module _ (b : Box) (xs first second : List ℕ) where
     unfolding early enterBox
     no-row = rw (own-some xs table, fine)
 
-    -- a tally that no sound table gives
-    lost-unsound : (mostVisits < mainCount♯ (own xs) b % 4294967296) ⊎ (65536 < mainCount♯ (own xs) b / 4294967296) → SoundTable (own xs) → ⊥
-    lost-unsound (inl h) k = omega (arith, visits-sound xs b fine (k .tree) (k .holding), count-most (own xs) (k .tree) (k .holding) b)
-    lost-unsound (inr h) k =
-        omega (
-          arith,
-          found-sound xs b fine (k .tree) (k .holding),
-          countIf-length (holds b) (marksOf (k .tree)),
-          holding-within (own xs) (k .tree) (k .holding),
-          holding-small (own xs) (k .tree) (k .holding),
-        )
-
     short-answer : (n : ℕ) → (length first < 3 * n) ⊎ (length second < 3 * n) → (T : Main) → n ≡ length (filterBy (holds b) (marksOf T))
         → refusal 10 n ≡ answer call (stateOf xs T)
     unfolding enterBox
@@ -202,27 +193,32 @@ module _ (b : Box) (xs first second : List ℕ) where
     short-answer n (inr h) T e =
         rw (fine, ← e, or-true-right (ltb (length first) (3 * n)) (ltb (length second) (3 * n)) (lt-ltb (length second) (3 * n) h))
 
-    own-performs : {first′ second′ : List ℕ} {f : ListFigures} → ListsOwn b (own xs) first second first′ second′ f → length first′ ≡ length first
-        → length second′ ≡ length second → Performs call (lends xs first second) (lends xs first′ second′) (listGiven f first′ second′)
+    own-performs : {first′ second′ : List ℕ} {f : ListFigures} → ListsOwn b (ownVisits xs) (own xs) first second first′ second′ f
+        → length first′ ≡ length first → length second′ ≡ length second
+        → Performs call (lends xs first second) (lends xs first′ second′) (listGiven f first′ second′)
     own-performs (lost h) sf ss =
-        let wrong = lost-unsound h in
-        refused-later call (lends xs first second) 4 0 (omega arith) (refl, refl) (λ T k. absurd (wrong (record { tree = T; holding = k }))) no-row
+        let wrong = damage-unsound xs table b fine h in
+        refused-later call (lends xs first second) 4 0 (omega arith) (λ z. refl) (refl, refl) (λ T k. absurd (wrong (record { tree = T; holding = k }))) no-row
         (unsound refl wrong)
-    own-performs (short visits h) sf ss =
-        refused-later call (lends xs first second) 10 (mainCount♯ (own xs) b / 4294967296) (omega arith) (refl, refl)
+    own-performs (short soon few h) sf ss =
+        refused-later call (lends xs first second) 10 (mainCount♯ (own xs) b / 4294967296) (omega arith) (λ z. refl) (refl, refl)
         (λ T k. short-answer (mainCount♯ (own xs) b / 4294967296) h T (found-sound xs b fine T k ∙ sym (filterBy-length (holds b) (marksOf T))))
-        no-row (performs.short h)
-    own-performs {first′ = first′} {second′ = second′} (lists {f = f} few p q done) sf ss =
+        no-row (performs.short (counts-to xs table b soon few) h)
+    own-performs {first′ = first′} {second′ = second′} (lists {f = f} soon few p q done) sf ss =
+        let most = ownVisits xs in
         let k = mainCount♯ (own xs) b / 4294967296 in
-        let v = visits b k xs first second first′ second′ p q sf ss in
+        let v = visits b most k xs first second first′ second′ p q sf ss in
         let l = listed-marks k v first′ second′ in
         let many = listed-many k v first′ second′ in
         subst (Performs call (lends xs first second) (lends xs first′ second′))
         (sym (ap (λ f. listGiven f first′ second′) (done .figures) ∙ given-listed k v first′ second′))
-        (performs-kept call xs first second first′ second′ (listedIn (whichList (length l)) l v) (refl, refl) (λ z. absurd (z no-row))
-        (λ z. performs.lists (rw many p) (rw many q)) (listed-leaves b k xs first second first′ second′ p q sf ss (done .long) (done .sorted)) (λ z. tt)
+        (performs-kept call xs first second first′ second′ (listedIn (whichList (length l)) l v) (λ z. refl) (refl, refl) (λ z. absurd (z no-row))
+        (λ z. performs.lists (subst (λ n. CountsTo (own xs) b n (mainCount♯ (own xs) b % 4294967296)) (sym many) (counts-to xs table b soon few))
+        (rw many p) (rw many q))
+        (listed-leaves b most k xs first second first′ second′ p q sf ss (done .long) (done .sorted)) (λ z. tt)
         (λ T h. (
-          listed-answers b k xs first second first′ second′ p q sf ss (done .long) (done .sorted) T h (found-sound xs b fine T h) fine,
+          listed-answers b most k xs first second first′ second′ p q sf ss (done .long) (done .sorted) (own-limit xs table b) (own-visits-few xs) T h
+              (found-sound xs b fine T h) fine,
           list-keeps b (length first) (length second) (stateOf xs T),
         )))
 
@@ -230,13 +226,13 @@ module _ (b : Box) (xs first second : List ℕ) where
       → length second′ ≡ length second → Performs call (lends xs first second) (lends xs first′ second′) (listGiven f first′ second′)
   unfolding early
   list-performs (notTable z) sf ss =
-      refused-early call (lends xs first second) 3 0 (omega arith) (refl, refl) (λ T h. absurd (sound-table xs h z)) (rw (own-none xs z)) refl
+      refused-early call (lends xs first second) 3 0 (omega arith) (λ z. refl) (refl, refl) (λ T h. absurd (sound-table xs h z)) (rw (own-none xs z)) refl
   list-performs (crossed {n = n} table e) sf ss =
       let k = crossed-six b n e in
-      refused-early call (lends xs first second) n 0 (omega (arith, k .0)) (refl, refl) (λ T h. rw e) (rw (own-some xs table, e)) refl
+      refused-early call (lends xs first second) n 0 (omega (arith, k .0)) (λ z. refl) (refl, refl) (λ T h. rw e) (rw (own-some xs table, e)) refl
   list-performs {first′ = first′} {second′ = second′} (onOwn {b′ = b′} {f = f} table e does) sf ss =
       let k = entered b b′ e in
       own-performs table (k .1)
-      (subst (λ zs. ListsOwn b zs first second first′ second′ f) (own-is xs table)
-      (subst (λ c. ListsOwn c (take (ownWords xs) xs) first second first′ second′ f) (k .0) does))
+      (subst (λ zs. ListsOwn b (ownVisits xs) zs first second first′ second′ f) (own-is xs table)
+      (subst (λ c. ListsOwn c (ownVisits xs) (take (ownWords xs) xs) first second first′ second′ f) (k .0) does))
       sf ss

@@ -68,7 +68,7 @@ module _ (c : ℕ) (xs : List ℕ) where
 
   refused-performs : (n : ℕ) → openTable c (length xs) ≡ refused n → (n ≡ 0 → ⊥) → Performs (openFor c (length xs)) (alone xs) (alone xs) (refusal n 0)
   unfolding early
-  refused-performs n e some = refused-early (openFor c (length xs)) (alone xs) n 0 some refl (λ T h. rw e) (rw e) refl
+  refused-performs n e some = refused-early (openFor c (length xs)) (alone xs) n 0 some (λ z. refl) refl (λ T h. rw e) (rw e) refl
 
   pub open-performs : (p : After Answer) → p ≡ open♯ c xs → Performs (openFor c (length xs)) (alone xs) (alone (p .words)) (p .out)
   unfolding open♯ onAccepted within openTable

@@ -4,6 +4,7 @@ use mathlib.Core.Path.{_≡_, refl, sym, ap, subst, _∙_}
 use mathlib.Core.Bool.{true, false}
 use mathlib.Core.List.{List, _++_}
 use native.Mathlib.Omega.{arith}
+use native.Mathlib.Nat.{sub-zero}
 use lib.Dec.{eqb, ltb}
 use lib.ListN.{length, getD, take, drop, length-take, take-append-drop, List·getD-append}
 use lib.Seq.{getD-take, length-take-le, take-at}
@@ -12,6 +13,7 @@ use Rattle.model.specs.Sizes.{W, capacityOutside}
 use Rattle.model.specs.Sheet.{Main}
 use Rattle.model.specs.Refusals.{accepted, refused, openTable}
 use Rattle.model.proofs.Logic.{by-cases}
+use Rattle.model.proofs.Sizes.{capacity-small}
 use Rattle.table.specs.Layout.{openPlace, capacityPlace, livePlace}
 use Rattle.twofold.specs.Sound.{capacityOf, liveOf, Holding, SoundTable}
 use Rattle.twofold.proofs.Sound.{live-within}
@@ -84,6 +86,14 @@ module _ (xs : List ℕ) where
       let k = table-own xs (sym (own-header openPlace (omega arith)) ∙ h .isOpen) (ap capacityOutside (sym c) ∙ h .capacity)
       (omega (arith, live-within h, c, own-live)) long in
       omega (arith, k .0, k .1)
+
+-- the own words as the code lends them: no more marks are live than the largest capacity
+pub part-live : (xs : List ℕ) (n : ℕ) → n ≡ ownWords xs → (n ≡ 0 → ⊥) → getD (take (n - 0) xs) livePlace 0 ≤ 65536
+part-live xs n is some =
+    let table : (ownWords xs ≡ 0 → ⊥) = λ z. some (is ∙ z) in
+    let k = own-table xs table in
+    let e : take (n - 0) xs ≡ own xs = ap (λ n. take n xs) (sub-zero n ∙ is) ∙ own-is xs table in
+    rw e (omega (arith, own-live xs, k .2, capacity-small (capacityOf xs) (k .1)))
 
 -- words that hold a tree, with others behind them: the own words are those that hold it
 module _ {ws : List ℕ} {T : Main} (h : Holding ws T) (rest : List ℕ) where

@@ -35,15 +35,16 @@ no-lists a xs ys f s e = record { answer = rw e; pastFirst = refl; pastSecond = 
 
 -- a call that leaves the table as it is
 module _ (c : Call) (xs f s f′ s′ : List ℕ) (a : Answer) where
-  pub performs-kept : LengthsOf c (lends xs f s) → (early c xs ≢ 0 → a ≡ refusal (early c xs) 0) → (early c xs ≡ 0 → Later xs c a)
+  pub performs-kept : (a .number ≡ 4 → updates c ≡ false) → LengthsOf c (lends xs f s) → (early c xs ≢ 0 → a ≡ refusal (early c xs) 0)
+      → (early c xs ≡ 0 → Later xs c a)
       → LeavesLists a (lends xs f s) (lends xs f′ s′) → (a .number ≡ 0 → Starts c xs)
       → ((T : Main) → Holding (own xs) T → (a ≡ answer c (stateOf xs T)) × (next c (stateOf xs T) ≡ stateOf xs T))
       → Performs c (lends xs f s) (lends xs f′ s′) a
-  performs-kept lengths refuses later lists starts says = record {
+  performs-kept shut lengths refuses later lists starts says = record {
     lengths = lengths;
     refuses = refuses;
     later = later;
-    leaves = unchanged;
+    leaves = unchanged shut;
     leavesLists = lists;
     starts = starts;
     follows = λ T h.
@@ -52,12 +53,12 @@ module _ (c : Call) (xs f s f′ s′ : List ℕ) (a : Answer) where
   }
 
 -- and one that is refused, with its number by an early row or a later one
-module _ (c : Call) (w : Lent) (n k : ℕ) (some : n ≢ 0) (lengths : LengthsOf c w)
+module _ (c : Call) (w : Lent) (n k : ℕ) (some : n ≢ 0) (shut : n ≡ 4 → updates c ≡ false) (lengths : LengthsOf c w)
     (says : (T : Main) → Holding (own (w .table)) T → refusal n k ≡ answer c (stateOf (w .table) T)) where
   refused-performs : (early c (w .table) ≢ 0 → refusal n k ≡ refusal (early c (w .table)) 0) → (early c (w .table) ≡ 0 → Later (w .table) c (refusal n k))
       → Performs c w w (refusal n k)
   refused-performs refuses later =
-      performs-kept c (w .table) (w .first) (w .second) (w .first) (w .second) (refusal n k) lengths refuses later
+      performs-kept c (w .table) (w .first) (w .second) (w .first) (w .second) (refusal n k) shut lengths refuses later
       (no-lists (refusal n k) (w .table) (w .table) (w .first) (w .second) refl)
       (λ z. absurd (some z)) (λ T h. (says T h, next-refused c (stateOf (w .table) T) n k some (says T h)))
 
@@ -69,7 +70,7 @@ module _ (c : Call) (w : Lent) (n k : ℕ) (some : n ≢ 0) (lengths : LengthsOf
 
 -- What an update does with the own words of a table that passed its early rows: it is refused, it closes the table, or it is accepted.
 pub data OwnUpdate (c : Call) (xs : List ℕ) : Answer → List ℕ → Type 0 where
-  refuses : {n : ℕ} → n ≢ 0 → Later xs c (refusal n 0) → ((T : Main) → Holding (own xs) T → refusal n 0 ≡ answer c (stateOf (own xs) T))
+  refuses : {n : ℕ} → n ≢ 0 → n ≢ 4 → Later xs c (refusal n 0) → ((T : Main) → Holding (own xs) T → refusal n 0 ≡ answer c (stateOf (own xs) T))
       → OwnUpdate c xs (refusal n 0) (own xs)
   closes : {ws : List ℕ} → (SoundTable (own xs) → ⊥) → getD ws openPlace 0 ≡ 0 → OwnUpdate c xs (refusal 4 0) ws
   accepts : {ws : List ℕ} {live rebuilt : ℕ} → Later xs c (updated live rebuilt)
@@ -96,9 +97,9 @@ module _ (c : Call) (m : Mark) (xs : List ℕ) (lengths : LengthsOf c (alone xs)
     kept-beyond ws long = rw reaches (drop-at ws beyond (W (capacityOf xs)) (own-long ws long))
 
     lift : {a : Answer} {ws : List ℕ} → OwnUpdate c xs a ws → length (ws ++ beyond) ≡ length xs → Performs c (alone xs) (alone (ws ++ beyond)) a
-    lift (refuses {n} some later says) long =
+    lift (refuses {n} some shut later says) long =
         subst (λ ys. Performs c (alone xs) (alone ys) (refusal n 0)) (sym (own-beyond xs table))
-        (refused-later c (alone xs) n 0 some lengths (λ T h. says T h ∙ ap (answer c) (state-own xs T)) entered later)
+        (refused-later c (alone xs) n 0 some (λ z. absurd (shut z)) lengths (λ T h. says T h ∙ ap (answer c) (state-own xs T)) entered later)
     lift (closes {ws} wrong shut) long = record {
       lengths = lengths;
       refuses = λ z. absurd (z entered);
@@ -132,14 +133,14 @@ module _ (c : Call) (m : Mark) (xs : List ℕ) (lengths : LengthsOf c (alone xs)
         unfolding updateOwn onTable
         not-table t =
             let z = eqb-true (ownWords xs) 0 t in
-            rw t (refused-early c (alone xs) 3 0 (omega arith) lengths (λ T h. absurd (sound-table xs h z)) (notOne (own-none xs z)) refl)
+            rw t (refused-early c (alone xs) 3 0 (omega arith) (λ z. absurd (omega arith)) lengths (λ T h. absurd (sound-table xs h z)) (notOne (own-none xs z)) refl)
 
         outside-sheet : eqb (ownWords xs) 0 ≡ false → markOutside m ≡ true → Performs c (alone xs) (alone (updateOwn f m xs .words)) (updateOwn f m xs .out)
         unfolding updateOwn onTable onAccepted enterMark
         outside-sheet t u =
             let z = eqb-false (ownWords xs) 0 t in
             rw (t, u)
-            (refused-early c (alone xs) 5 0 (omega arith) lengths (λ T h. outside (stateOf xs T) 5 (rw u)) (one (own-some xs z) ∙ rw u) refl)
+            (refused-early c (alone xs) 5 0 (omega arith) (λ z. absurd (omega arith)) lengths (λ T h. outside (stateOf xs T) 5 (rw u)) (one (own-some xs z) ∙ rw u) refl)
 
         on-sheet : eqb (ownWords xs) 0 ≡ false → markOutside m ≡ false → Performs c (alone xs) (alone (updateOwn f m xs .words)) (updateOwn f m xs .out)
         unfolding updateOwn onTable onAccepted within enterMark

@@ -1,7 +1,7 @@
 -- The calls that only read the table: count and check. Assumes nothing.
 use Prim.Native.Nat.{ℕ, _+_, _-_, _*_, _/_, _%_, _≤_, _<_}
 use mathlib.Core.Path.{_≡_, refl, sym, ap, ap₂, subst, _∙_}
-use mathlib.Core.Logic.{_≢_}
+use mathlib.Core.Logic.{_≢_, _⊎_, inl, inr}
 use mathlib.Core.Bool.{true, false}
 use mathlib.Core.List.{List, []}
 use native.Mathlib.Omega.{arith}
@@ -17,16 +17,19 @@ use Rattle.model.specs.History.{Call, State, Answer, refusal, updated, counted,
 use Rattle.model.specs.History as history
 use Rattle.model.proofs.Logic.{by-cases}
 use Rattle.table.specs.Layout.{damaged}
-use Rattle.table.specs.Tally.{mostVisits, pack}
-use Rattle.twofold.specs.Sound.{capacityOf, Holding, SoundTable}
+use Rattle.model.proofs.Lists.{countIf-length}
+use Rattle.sizes.specs.Sizes.{visitsWithin}
+use Rattle.table.specs.Tally.{pack}
+use Rattle.twofold.specs.Sound.{capacityOf, liveOf, Holding, SoundTable}
 use Rattle.primary_search.specs.Count.{mainCount♯}
-use Rattle.primary.proofs.Searching.{holding-within, holding-small, count-sound, count-plain, count-most}
+use Rattle.primary.proofs.Searching.{holding-within, holding-small, count-sound, count-plain, count-within, count-most}
 use Rattle.checking.specs.Verdict.{Verdict}
 use Rattle.checking.specs.Verdict as verdict
-use Rattle.checking.specs.Header.{notTable, ownWords}
-use Rattle.register.specs.Performs.{alone, early, own, Later, counts, sound, unsound, stateOf, Performs}
+use Rattle.checking.specs.Header.{notTable, ownWords, ownVisits}
+use Rattle.checking.proofs.Own.{own-most}
+use Rattle.register.specs.Performs.{alone, early, own, CountsTo, Later, counts, sound, unsound, stateOf, Performs}
 use Rattle.register.specs.Mirrors.{orNumber, tallied, countOwn♯, count♯}
-use Rattle.register.proofs.Own.{own-none, own-some, own-is, sound-table}
+use Rattle.register.proofs.Own.{own-none, own-some, own-capacity, own-live, own-is, sound-table}
 use Rattle.register.proofs.Performing.{no-lists, performs-kept, refused-early, refused-later}
 
 -- what a tally of marks and visits says
@@ -35,6 +38,9 @@ pack-visits k v h = omega arith
 
 pub pack-found : (k v : ℕ) → v < 4294967296 → pack k v / 4294967296 ≡ k
 pack-found k v h = omega arith
+
+pack-both : (t : ℕ) → t ≡ pack (t / 4294967296) (t % 4294967296)
+pack-both t = omega arith
 
 module _ (xs : List ℕ) (b : Box) (fine : boxCrossed b ≡ false) (T : Main) (h : Holding (own xs) T) where
   pub visits-sound : mainCount♯ (own xs) b % 4294967296 ≡ main .count b T .visits
@@ -47,6 +53,26 @@ module _ (xs : List ℕ) (b : Box) (fine : boxCrossed b ≡ false) (T : Main) (h
       ap (λ t. t / 4294967296) (count-sound (own xs) T h b fine)
       ∙ pack-found (main .count b T .found) (main .count b T .visits) (omega (arith, count-most (own xs) T h b)) ∙ count-plain (own xs) T h b
 
+-- the figures of the search by the words, and where they are damage
+module _ (xs : List ℕ) (table : ownWords xs ≡ 0 → ⊥) (b : Box) where
+  abbrev found : ℕ
+  found = mainCount♯ (own xs) b / 4294967296
+
+  abbrev visits : ℕ
+  visits = mainCount♯ (own xs) b % 4294967296
+
+  pub own-limit : ownVisits xs ≡ visitsWithin (capacityOf (own xs))
+  own-limit = own-most xs table ∙ ap visitsWithin (sym (own-capacity xs))
+
+  pub counts-to : visits ≤ ownVisits xs → found ≤ liveOf (own xs) → CountsTo (own xs) b found visits
+  counts-to v k = record { tally = pack-both (mainCount♯ (own xs) b); few = k; soon = omega (arith, v, own-limit) }
+
+  pub damage-unsound : boxCrossed b ≡ false → (ownVisits xs < visits) ⊎ (liveOf (own xs) < found) → SoundTable (own xs) → ⊥
+  damage-unsound fine (inl h) k =
+      omega (arith, h, own-limit, visits-sound xs b fine (k .tree) (k .holding), count-within (own xs) (k .tree) (k .holding) b)
+  damage-unsound fine (inr h) k =
+      omega (arith, h, found-sound xs b fine (k .tree) (k .holding), countIf-length (holds b) (marksOf (k .tree)), k .holding .live)
+
 -- reading leaves the state as it is
 pub count-keeps : (b : Box) (s : State) → next (history.count b) s ≡ s
 count-keeps b s = by-cases (eqb (answer (history.count b) s .number) 0) (λ t. rw t) (λ t. rw t)
@@ -55,30 +81,37 @@ module _ (b : Box) (xs : List ℕ) where
   count-refused : (n : ℕ) → n ≢ 0 → early (history.count b) xs ≡ n
       → ((T : Main) → Holding (own xs) T → refusal n 0 ≡ answer (history.count b) (stateOf xs T))
       → Performs (history.count b) (alone xs) (alone xs) (refusal n 0)
-  count-refused n some e says = refused-early (history.count b) (alone xs) n 0 some tt says e refl
+  count-refused n some e says = refused-early (history.count b) (alone xs) n 0 some (λ z. refl) tt says e refl
 
   module _ (table : ownWords xs ≡ 0 → ⊥) (entered : boxCrossed b ≡ false) where
     no-row : early (history.count b) xs ≡ 0
     unfolding early enterBox
     no-row = rw (own-some xs table, entered)
 
-    tallied-performs : Performs (history.count b) (alone xs) (alone xs) (tallied (mainCount♯ (own xs) b))
-    unfolding tallied enterBox
+    damage-performs : (ownVisits xs < visits xs table b) ⊎ (liveOf (own xs) < found xs table b)
+        → Performs (history.count b) (alone xs) (alone xs) (refusal 4 0)
+    damage-performs h =
+        let wrong = damage-unsound xs table b entered h in
+        refused-later (history.count b) (alone xs) 4 0 (omega arith) (λ z. refl) tt (λ T h. absurd (wrong (record { tree = T; holding = h }))) no-row
+        (unsound refl wrong)
+
+    counted-performs : CountsTo (own xs) b (found xs table b) (visits xs table b)
+        → Performs (history.count b) (alone xs) (alone xs) (counted (found xs table b) (visits xs table b))
+    unfolding enterBox
+    counted-performs h =
+        performs-kept (history.count b) xs [] [] [] [] (counted (found xs table b) (visits xs table b)) (λ z. refl) tt
+        (λ z. absurd (z no-row)) (λ z. counts h)
+        (no-lists (counted (found xs table b) (visits xs table b)) xs xs [] [] refl) (λ z. tt)
+        (λ T h. (rw entered (ap₂ counted (found-sound xs b entered T h) (visits-sound xs b entered T h)), count-keeps b (stateOf xs T)))
+
+    tallied-performs : Performs (history.count b) (alone xs) (alone xs) (tallied (ownVisits xs) (liveOf (own xs)) (mainCount♯ (own xs) b))
+    unfolding tallied
     tallied-performs =
-        by-cases (ltb mostVisits (mainCount♯ (own xs) b % 4294967296))
-        (λ t.
-        let wrong : SoundTable (own xs) → ⊥ = λ k. omega (
-          arith,
-          ltb-true mostVisits (mainCount♯ (own xs) b % 4294967296) t,
-          visits-sound xs b entered (k .tree) (k .holding),
-          count-most (own xs) (k .tree) (k .holding) b,
-        ) in
-        rw t (refused-later (history.count b) (alone xs) 4 0 (omega arith) tt (λ T h. absurd (wrong (record { tree = T; holding = h }))) no-row
-        (unsound refl wrong)))
-        (λ f. rw f (performs-kept (history.count b) xs [] [] [] [] (counted (mainCount♯ (own xs) b / 4294967296) (mainCount♯ (own xs) b % 4294967296)) tt
-        (λ z. absurd (z no-row)) (λ z. counts)
-        (no-lists (counted (mainCount♯ (own xs) b / 4294967296) (mainCount♯ (own xs) b % 4294967296)) xs xs [] [] refl) (λ z. tt)
-        (λ T h. (rw entered (ap₂ counted (found-sound xs b entered T h) (visits-sound xs b entered T h)), count-keeps b (stateOf xs T)))))
+        by-cases (ltb (ownVisits xs) (visits xs table b))
+        (λ t. rw t (damage-performs (inl (ltb-true (ownVisits xs) (visits xs table b) t))))
+        (λ f. by-cases (ltb (liveOf (own xs)) (found xs table b))
+        (λ t. rw (f, t) (damage-performs (inr (ltb-true (liveOf (own xs)) (found xs table b) t))))
+        (λ g. rw (f, g) (counted-performs (counts-to xs table b (ltb-false (ownVisits xs) (visits xs table b) f) (ltb-false (liveOf (own xs)) (found xs table b) g)))))
 
   pub count-performs : (a : Answer) → a ≡ count♯ b xs → Performs (history.count b) (alone xs) (alone xs) a
   unfolding count♯ countOwn♯ orNumber early enterBox
@@ -109,7 +142,7 @@ module _ (xs : List ℕ) where
   pub check-not-table : ownWords xs ≡ 0 → Performs history.check (alone xs) (alone xs) (refusal 3 0)
   unfolding early
   check-not-table z =
-      refused-early history.check (alone xs) 3 0 (omega arith) tt (λ T h. absurd (sound-table xs h z)) (rw (own-none xs z)) refl
+      refused-early history.check (alone xs) 3 0 (omega arith) (λ z. refl) tt (λ T h. absurd (sound-table xs h z)) (rw (own-none xs z)) refl
 
   module _ (n : ℕ) (is : n ≡ ownWords xs) (some : n ≡ 0 → ⊥) (v : ℕ) (says : Verdict (take (n - 0) xs) v) where
     table : ownWords xs ≡ 0 → ⊥
@@ -125,12 +158,13 @@ module _ (xs : List ℕ) where
     pub check-unsound : v ≡ damaged → Performs history.check (alone xs) (alone xs) (refusal 4 0)
     check-unsound e =
         let wrong = verdict-unsound own-says e in
-        refused-later history.check (alone xs) 4 0 (omega arith) tt (λ T h. absurd (wrong (record { tree = T; holding = h }))) check-row (unsound refl wrong)
+        refused-later history.check (alone xs) 4 0 (omega arith) (λ z. refl) tt (λ T h. absurd (wrong (record { tree = T; holding = h }))) check-row
+        (unsound refl wrong)
 
     pub check-sound : v ≢ damaged → Performs history.check (alone xs) (alone xs) (updated v 0)
     check-sound ne =
         let k = verdict-sound own-says ne in
-        performs-kept history.check xs [] [] [] [] (updated v 0) tt (λ z. absurd (z check-row))
+        performs-kept history.check xs [] [] [] [] (updated v 0) (λ z. refl) tt (λ z. absurd (z check-row))
         (λ z. subst (λ n. Later xs history.check (updated n 0)) (sym (k .2)) (sound (k .1)))
         (no-lists (updated v 0) xs xs [] [] refl) (λ z. tt)
         (λ T h. (ap (λ n. updated n 0) (k .2 ∙ sym (k .1 .live) ∙ h .live), refl))

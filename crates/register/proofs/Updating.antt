@@ -15,11 +15,13 @@ use Rattle.model.specs.Refusals.{refused, enterMark}
 use Rattle.model.specs.History.{State, Answer, refusal, updated, has, answer, next}
 use Rattle.model.specs.History as history
 use Rattle.model.proofs.Logic.{by-cases}
+use Rattle.model.proofs.Sizes.{capacity-small}
 use Rattle.model.proofs.TwoFold.{main-insert-marks, main-strike-marks}
 use Rattle.table.specs.Layout.{openPlace, damaged}
 use Rattle.table.specs.After.{After, after}
 use Rattle.twofold.specs.Sound.{capacityOf, liveOf, Holding, SoundTable}
 use Rattle.primary_search.specs.Find.{absent, find♯}
+use Rattle.primary_search.proofs.Sought.{find-finds, find-lacks}
 use Rattle.primary.specs.Insert.{tableInsert♯}
 use Rattle.primary.specs.Strike.{tableStrike♯}
 use Rattle.primary.proofs.Searching.{holding-agrees, holding-small, find-sound, find-missing}
@@ -56,9 +58,12 @@ module _ (zs : List ℕ) (T : Main) (h : Holding zs T) (m : Mark) where
 
 -- INSERTION
 
-module _ (m : Mark) (on : markOutside m ≡ false) (xs : List ℕ) (fits : liveOf xs ≤ capacityOf xs) where
+module _ (m : Mark) (on : markOutside m ≡ false) (xs : List ℕ) (small : capacityOf xs ≤ 65536) (fits : liveOf xs ≤ capacityOf xs) where
   abbrev zs : List ℕ
   zs = own xs
+
+  slots-small : capacityOf zs < absent
+  slots-small = omega (arith, small, own-capacity xs)
 
   insert-unsound : find♯ zs m ≡ damaged → SoundTable zs → ⊥
   insert-unsound e k = slot-fine zs (k .tree) (k .holding) m e
@@ -102,7 +107,7 @@ module _ (m : Mark) (on : markOutside m ≡ false) (xs : List ℕ) (fits : liveO
       settle-insert =
           by-cases (eqb (p .out) damaged)
           (λ t. rw t (closes (λ k. insert-fine (k .tree) (k .holding) (eqb-true (p .out) damaged t)) (shut (p .words))))
-          (λ f. rw f (accepts (inserts (omega (arith, fits, own-live xs, own-capacity xs, room))) insert-goes))
+          (λ f. rw f (accepts (inserts (find-lacks zs m slots-small new) (omega (arith, fits, own-live xs, own-capacity xs, room))) insert-goes))
 
   insert-own : OwnUpdate (history.insert m) xs (insertOwn♯ m zs .out) (insertOwn♯ m zs .words)
   unfolding insertOwn♯ insertFound closed♯
@@ -113,21 +118,28 @@ module _ (m : Mark) (on : markOutside m ≡ false) (xs : List ℕ) (fits : liveO
       (λ t. by-cases (eqb (liveOf zs) (capacityOf zs))
       (λ u.
       let e = eqb-true (liveOf zs) (capacityOf zs) u in
-      rw (f, t, u) (refuses {n = 7} (omega arith) (full (sym (own-live xs) ∙ e ∙ own-capacity xs)) (insert-full (eqb-true (find♯ zs m) absent t) e)))
+      let lacks = eqb-true (find♯ zs m) absent t in
+      rw (f, t, u) (refuses {n = 7} (omega arith) (omega arith) (full (find-lacks zs m slots-small lacks) (sym (own-live xs) ∙ e ∙ own-capacity xs))
+      (insert-full lacks e)))
       (λ u. rw (f, t, u) (settle-insert (eqb-true (find♯ zs m) absent t) (eqb-false (liveOf zs) (capacityOf zs) u))))
-      (λ u. rw (f, u) (refuses {n = 8} (omega arith) present (insert-present (eqb-false (find♯ zs m) absent u)))))
+      (λ u.
+      let has = eqb-false (find♯ zs m) absent u in
+      rw (f, u) (refuses {n = 8} (omega arith) (omega arith) (present (find-finds zs m slots-small (eqb-false (find♯ zs m) damaged f) has)) (insert-present has))))
 
 -- STRIKE
 
-module _ (m : Mark) (on : markOutside m ≡ false) (xs : List ℕ) where
+module _ (m : Mark) (on : markOutside m ≡ false) (xs : List ℕ) (small : capacityOf xs ≤ 65536) where
   abbrev ws : List ℕ
   ws = own xs
+
+  few-slots : capacityOf ws < absent
+  few-slots = omega (arith, small, own-capacity xs)
 
   strike-missing : find♯ ws m ≡ absent → (T : Main) → Holding ws T → refusal 9 0 ≡ answer (history.strike m) (stateOf ws T)
   unfolding enterMark
   strike-missing e T h = rw (on, slot-lacks ws T h m e)
 
-  module _ (old : find♯ ws m ≢ absent) where
+  module _ (fine : find♯ ws m ≢ damaged) (old : find♯ ws m ≢ absent) where
     abbrev q : After ℕ
     q = tableStrike♯ m (find♯ ws m) ws
 
@@ -150,7 +162,7 @@ module _ (m : Mark) (on : markOutside m ≡ false) (xs : List ℕ) where
     settle-strike =
         by-cases (eqb (q .out) damaged)
         (λ t. rw t (closes (λ k. strike-sound ws (k .tree) (k .holding) m (stands (k .tree) (k .holding)) .2 (eqb-true (q .out) damaged t)) (shut (q .words))))
-        (λ f. rw f (accepts strikes strike-goes))
+        (λ f. rw f (accepts (strikes (find-finds ws m few-slots fine old)) strike-goes))
 
   strike-own : OwnUpdate (history.strike m) xs (strikeOwn♯ m ws .out) (strikeOwn♯ m ws .words)
   unfolding strikeOwn♯ strikeFound closed♯
@@ -158,8 +170,10 @@ module _ (m : Mark) (on : markOutside m ≡ false) (xs : List ℕ) where
       by-cases (eqb (find♯ ws m) damaged)
       (λ t. rw t (closes (λ k. slot-fine ws (k .tree) (k .holding) m (eqb-true (find♯ ws m) damaged t)) (shut ws)))
       (λ f. by-cases (eqb (find♯ ws m) absent)
-      (λ t. rw (f, t) (refuses {n = 9} (omega arith) missing (strike-missing (eqb-true (find♯ ws m) absent t))))
-      (λ u. rw (f, u) (settle-strike (eqb-false (find♯ ws m) absent u))))
+      (λ t.
+      let lacks = eqb-true (find♯ ws m) absent t in
+      rw (f, t) (refuses {n = 9} (omega arith) (omega arith) (missing (find-lacks ws m few-slots lacks)) (strike-missing lacks)))
+      (λ u. rw (f, u) (settle-strike (eqb-false (find♯ ws m) damaged f) (eqb-false (find♯ ws m) absent u))))
 
 -- THE CALLS
 
@@ -168,10 +182,10 @@ module _ (m : Mark) (xs ys : List ℕ) (a : Answer) (long : length ys ≡ length
   unfolding insert♯ early enterMark
   insert-performs e =
       update-performs (history.insert m) m xs tt refl refl refl (λ t. rw t) (λ f. rw f) (λ s n k. rw k) (λ ys. tt) insertOwn♯
-      (λ table on. insert-own m on xs (own-table xs table .2)) (after a ys) e long
+      (λ table on. insert-own m on xs (capacity-small (capacityOf xs) (own-table xs table .1)) (own-table xs table .2)) (after a ys) e long
 
   pub strike-performs : after a ys ≡ strike♯ m xs → Performs (history.strike m) (alone xs) (alone ys) a
   unfolding strike♯ early enterMark
   strike-performs e =
       update-performs (history.strike m) m xs tt refl refl refl (λ t. rw t) (λ f. rw f) (λ s n k. rw k) (λ ys. tt) strikeOwn♯
-      (λ table on. strike-own m on xs) (after a ys) e long
+      (λ table on. strike-own m on xs (capacity-small (capacityOf xs) (own-table xs table .1))) (after a ys) e long

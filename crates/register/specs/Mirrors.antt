@@ -11,7 +11,6 @@ use Rattle.model.specs.Sheet.{Mark, Box}
 use Rattle.model.specs.Refusals.{Outcome, accepted, refused, openTable, enterMark, enterBox}
 use Rattle.model.specs.History.{Answer, refusal, updated, counted, whichList}
 use Rattle.table.specs.Layout.{openPlace, capacityPlace, livePlace, damaged}
-use Rattle.table.specs.Tally.{mostVisits}
 use Rattle.table.specs.After.{After, after}
 use Rattle.primary_search.specs.Find.{absent, find♯}
 use Rattle.primary_search.specs.Count.{mainCount♯}
@@ -19,7 +18,7 @@ use Rattle.primary_search.specs.List.{mainList♯}
 use Rattle.primary.specs.Empty.{empty♯}
 use Rattle.primary.specs.Insert.{tableInsert♯}
 use Rattle.primary.specs.Strike.{tableStrike♯}
-use Rattle.checking.specs.Header.{ownWords}
+use Rattle.checking.specs.Header.{ownWords, ownVisits}
 use Rattle.sorting.specs.Sorted.{SortedIn}
 use Rattle.register.specs.Answers.{ListFigures, listRefused}
 
@@ -44,18 +43,20 @@ settled♯ rebuilt xs = if eqb rebuilt damaged then closed♯ xs else after (upd
 unfoldable pub settledAfter : After ℕ → After Answer
 settledAfter p = settled♯ (p .out) (p .words)
 
+-- what was looked for: damage closes the table; else what is done where there is no such mark, or where there is one
+abbrev pub onFound : ℕ → List ℕ → After Answer → After Answer → After Answer
+onFound s xs lacks has = if eqb s damaged then closed♯ xs else (if eqb s absent then lacks else has)
+
 unfoldable pub insertFound : Mark → ℕ → List ℕ → After Answer
 insertFound m s xs =
-    if eqb s damaged then closed♯ xs
-    else (if eqb s absent then (if eqb (getD xs livePlace 0) (getD xs capacityPlace 0) then after (refusal 7 0) xs else settledAfter (tableInsert♯ m xs))
-    else after (refusal 8 0) xs)
+    onFound s xs (if eqb (getD xs livePlace 0) (getD xs capacityPlace 0) then after (refusal 7 0) xs else settledAfter (tableInsert♯ m xs))
+    (after (refusal 8 0) xs)
 
 unfoldable pub insertOwn♯ : Mark → List ℕ → After Answer
 insertOwn♯ m xs = insertFound m (find♯ xs m) xs
 
 unfoldable pub strikeFound : Mark → ℕ → List ℕ → After Answer
-strikeFound m s xs =
-    if eqb s damaged then closed♯ xs else (if eqb s absent then after (refusal 9 0) xs else settledAfter (tableStrike♯ m s xs))
+strikeFound m s xs = onFound s xs (after (refusal 9 0) xs) (settledAfter (tableStrike♯ m s xs))
 
 unfoldable pub strikeOwn♯ : Mark → List ℕ → After Answer
 strikeOwn♯ m xs = strikeFound m (find♯ xs m) xs
@@ -78,35 +79,38 @@ unfoldable pub orNumber : {A : Type 0} → Outcome A → (A → Answer) → Answ
 orNumber (accepted a) f = f a
 orNumber (refused n) f = refusal n 0
 
-unfoldable pub tallied : ℕ → Answer
-tallied t = if ltb mostVisits (t % 4294967296) then refusal 4 0 else counted (t / 4294967296) (t % 4294967296)
+-- a tally, with the most visits and the live marks that it may tell of
+unfoldable pub tallied : ℕ → ℕ → ℕ → Answer
+tallied most live t =
+    if ltb most (t % 4294967296) then refusal 4 0
+    else (if ltb live (t / 4294967296) then refusal 4 0 else counted (t / 4294967296) (t % 4294967296))
 
-unfoldable pub countOwn♯ : Box → List ℕ → Answer
-countOwn♯ b xs = tallied (mainCount♯ xs b)
+unfoldable pub countOwn♯ : ℕ → Box → List ℕ → Answer
+countOwn♯ most b xs = tallied most (getD xs livePlace 0) (mainCount♯ xs b)
 
 unfoldable pub count♯ : Box → List ℕ → Answer
-count♯ b xs = if eqb (ownWords xs) 0 then refusal 3 0 else orNumber (enterBox b) (λ b. countOwn♯ b (take (ownWords xs) xs))
+count♯ b xs = if eqb (ownWords xs) 0 then refusal 3 0 else orNumber (enterBox b) (λ b. countOwn♯ (ownVisits xs) b (take (ownWords xs) xs))
 
 -- A list's spare list is free, so what a listing does is a relation of the lists before and after.
-module _ (b : Box) where
+module _ (b : Box) (most : ℕ) where
   -- k marks listed into the first list, then sorted
   pub record ListedOwn (k : ℕ) (xs first second first′ second′ : List ℕ) (f : ListFigures) : Type 0 where
-    pub long : length (mainList♯ xs b (mostVisits + 2 * k) (take (3 * k) first) .words) ≡ length (take (3 * k) first)
+    pub long : length (mainList♯ xs b (most + 2 * k) (take (3 * k) first) .words) ≡ length (take (3 * k) first)
     pub figures : f ≡ record {
       number = 0;
       k = k;
-      visits = mainList♯ xs b (mostVisits + 2 * k) (take (3 * k) first) .out % 4294967296;
+      visits = mainList♯ xs b (most + 2 * k) (take (3 * k) first) .out % 4294967296;
       which = whichList k;
     }
-    pub sorted : SortedIn k (mainList♯ xs b (mostVisits + 2 * k) (take (3 * k) first) .words ++ drop (3 * k) first) second first′ second′
+    pub sorted : SortedIn k (mainList♯ xs b (most + 2 * k) (take (3 * k) first) .words ++ drop (3 * k) first) second first′ second′
 
   pub data ListsOwn (xs first second : List ℕ) : List ℕ → List ℕ → ListFigures → Type 0 where
-    lost : (mostVisits < mainCount♯ xs b % 4294967296) ⊎ (65536 < mainCount♯ xs b / 4294967296)
+    lost : (most < mainCount♯ xs b % 4294967296) ⊎ (getD xs livePlace 0 < mainCount♯ xs b / 4294967296)
         → ListsOwn xs first second first second (listRefused 4 0)
-    short : mainCount♯ xs b % 4294967296 ≤ mostVisits
+    short : mainCount♯ xs b % 4294967296 ≤ most → mainCount♯ xs b / 4294967296 ≤ getD xs livePlace 0
         → (length first < 3 * (mainCount♯ xs b / 4294967296)) ⊎ (length second < 3 * (mainCount♯ xs b / 4294967296))
         → ListsOwn xs first second first second (listRefused 10 (mainCount♯ xs b / 4294967296))
-    lists : {first′ second′ : List ℕ} {f : ListFigures} → mainCount♯ xs b % 4294967296 ≤ mostVisits
+    lists : {first′ second′ : List ℕ} {f : ListFigures} → mainCount♯ xs b % 4294967296 ≤ most → mainCount♯ xs b / 4294967296 ≤ getD xs livePlace 0
         → 3 * (mainCount♯ xs b / 4294967296) ≤ length first → 3 * (mainCount♯ xs b / 4294967296) ≤ length second
         → ListedOwn (mainCount♯ xs b / 4294967296) xs first second first′ second′ f → ListsOwn xs first second first′ second′ f
 
@@ -115,4 +119,4 @@ module _ (b : Box) where
     notTable : ownWords xs ≡ 0 → Lists xs first second first second (listRefused 3 0)
     crossed : {n : ℕ} → (ownWords xs ≡ 0 → ⊥) → enterBox b ≡ refused n → Lists xs first second first second (listRefused n 0)
     onOwn : {b′ : Box} {first′ second′ : List ℕ} {f : ListFigures} → (ownWords xs ≡ 0 → ⊥) → enterBox b ≡ accepted b′
-        → ListsOwn b′ (take (ownWords xs) xs) first second first′ second′ f → Lists xs first second first′ second′ f
+        → ListsOwn b′ (ownVisits xs) (take (ownWords xs) xs) first second first′ second′ f → Lists xs first second first′ second′ f

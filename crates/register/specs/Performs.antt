@@ -14,8 +14,12 @@ use Rattle.model.specs.Sheet.{Mark, Box, Main}
 use Rattle.model.specs.Refusals.{Outcome, accepted, refused, openTable, enterMark, enterBox}
 use Rattle.model.specs.History.{Call, openFor, insert, strike, count, list, check, State, Answer, refusal, updated, counted, listedIn, whichList, answer, next}
 use Rattle.table.specs.Layout.{openPlace}
+use Rattle.sizes.specs.Sizes.{visitsWithin}
 use Rattle.table.specs.Marks.{markWords}
+use Rattle.table.specs.Tally.{pack}
 use Rattle.twofold.specs.Sound.{capacityOf, liveOf, Holding, SoundTable}
+use Rattle.primary_search.specs.Sought.{Finds, Lacks}
+use Rattle.primary_search.specs.Count.{mainCount♯}
 use Rattle.checking.specs.Header.{notTable}
 use Rattle.register.specs.Answers.{inList}
 
@@ -74,18 +78,28 @@ updates (count b) = false
 updates (list b first second) = false
 updates check = false
 
--- The rows that rest on the tree, and the accepted answers: where no early row applies a call gives one of these, also on a table that is not sound.
--- "Number 4 never comes from a sound table."
+-- What the search of a count comes to by the words: on a sound table the marks that the box holds and the written search's visits (`Follows`); on any other
+-- figures without meaning, of which is known that `mainCount♯`, the code step by step, gives them. Figures that no sound table with this header can have, more
+-- marks than live or more visits than (4D + 1)(2D + 1) for D(C), are damage.
+pub record CountsTo (xs : List ℕ) (b : Box) (k visits : ℕ) : Type 0 where
+  pub tally : mainCount♯ xs b ≡ pack k visits
+  pub few : k ≤ liveOf xs
+  pub soon : visits ≤ visitsWithin (capacityOf xs)
+
+-- The rows that rest on the tree, and the accepted answers: where no early row applies a call gives one of these. On a table that is not sound 7 to 10 come "by
+-- the words they met", and so do the accepted answers: an insert and a strike by the search for the mark (`Finds`, `Lacks`), 8 before 7, a count and a list by
+-- the search of a count. Where the search for the mark comes to no leaf only 4 is left. "Number 4 never comes from a sound table."
 pub data Later (xs : List ℕ) : Call → Answer → Type 0 where
   opens : {c words : ℕ} → Later xs (openFor c words) (updated 0 0)
-  present : {m : Mark} → Later xs (insert m) (refusal 8 0)
-  full : {m : Mark} → liveOf xs ≡ capacityOf xs → Later xs (insert m) (refusal 7 0)
-  inserts : {m : Mark} {live rebuilt : ℕ} → liveOf xs < capacityOf xs → Later xs (insert m) (updated live rebuilt)
-  missing : {m : Mark} → Later xs (strike m) (refusal 9 0)
-  strikes : {m : Mark} {live rebuilt : ℕ} → Later xs (strike m) (updated live rebuilt)
-  counts : {b : Box} {k visits : ℕ} → Later xs (count b) (counted k visits)
-  short : {b : Box} {first second k : ℕ} → (first < 3 * k) ⊎ (second < 3 * k) → Later xs (list b first second) (refusal 10 k)
-  lists : {b : Box} {first second visits : ℕ} {l : List Mark} → 3 * length l ≤ first → 3 * length l ≤ second
+  present : {m : Mark} {s : ℕ} → Finds (own xs) m s → Later xs (insert m) (refusal 8 0)
+  full : {m : Mark} → Lacks (own xs) m → liveOf xs ≡ capacityOf xs → Later xs (insert m) (refusal 7 0)
+  inserts : {m : Mark} {live rebuilt : ℕ} → Lacks (own xs) m → liveOf xs < capacityOf xs → Later xs (insert m) (updated live rebuilt)
+  missing : {m : Mark} → Lacks (own xs) m → Later xs (strike m) (refusal 9 0)
+  strikes : {m : Mark} {s live rebuilt : ℕ} → Finds (own xs) m s → Later xs (strike m) (updated live rebuilt)
+  counts : {b : Box} {k visits : ℕ} → CountsTo (own xs) b k visits → Later xs (count b) (counted k visits)
+  short : {b : Box} {first second k visits : ℕ} → CountsTo (own xs) b k visits → (first < 3 * k) ⊎ (second < 3 * k)
+      → Later xs (list b first second) (refusal 10 k)
+  lists : {b : Box} {first second counted visits : ℕ} {l : List Mark} → CountsTo (own xs) b (length l) counted → 3 * length l ≤ first → 3 * length l ≤ second
       → Later xs (list b first second) (listedIn (whichList (length l)) l visits)
   sound : {T : Main} → Holding (own xs) T → Later xs check (updated (length (marksOf T)) 0)
   unsound : {c : Call} → opensTable c ≡ false → (SoundTable (own xs) → ⊥) → Later xs c (refusal 4 0)
@@ -100,9 +114,9 @@ reach (list b first second) xs = 0
 reach check xs = 0
 
 -- What a call with that number leaves in the table. "Only open, insert and strike write in the table." A refusal "changes no lent word, save this: an
--- insert or strike that gives 4 sets word 0 to 0 and may have written other words up to W(C)".
+-- insert or strike that gives 4 sets word 0 to 0 and may have written other words up to W(C)": no update that gives 4 leaves the table open.
 pub data Leaves (c : Call) (xs : List ℕ) : ℕ → List ℕ → Type 0 where
-  unchanged : {n : ℕ} → Leaves c xs n xs
+  unchanged : {n : ℕ} → (n ≡ 4 → updates c ≡ false) → Leaves c xs n xs
   written : {ys : List ℕ} → length ys ≡ length xs → drop (reach c xs) ys ≡ drop (reach c xs) xs → Leaves c xs 0 ys
   closed : {ys : List ℕ} → updates c ≡ true → getD ys openPlace 0 ≡ 0 → length ys ≡ length xs → drop (reach c xs) ys ≡ drop (reach c xs) xs
       → Leaves c xs 4 ys

@@ -7,6 +7,8 @@ use mathlib.Core.Logic.{_≢_}
 use mathlib.Core.List.{List, [], _∷_}
 use lib.ListN.{length, take}
 use Rattle.model.specs.Sizes.{D}
+use Rattle.model.specs.Sheet.{sheet, alongX}
+use Rattle.model.specs.Laws.{Sorted, Distinct}
 use Rattle.model.specs.History.{Call, openFor, State, Answer, answer, next}
 use Rattle.table.specs.Marks.{markWords}
 use Rattle.register.specs.Answers.{inList}
@@ -35,6 +37,7 @@ pub record Run (xs : List ℕ) (m : Made) (ms : List Made) : Type 0 where
 -- "Beside it goes a plain list of marks": what a call of a run gives, where s is the plain list and the tree that the accepted calls before it make. All
 -- figures are those of the history's step, "'Rebuilt' and visits .. those that the rules above give on the tree"; an accepted list's marks stand as words
 -- in the lent list that the answer names. "No step gives 3 or 4". "The n of the bound is the plain list's length"; a list of k marks visits at most 2k more.
+-- The plain list that the call leaves is "ascending by x, y, tag", each mark once, and no longer than the capacity.
 pub record AsPlain (s : State) (m : Made) : Type 0 where
   pub answers : m .answer ≡ answer (m .call) s
   pub words : take (3 * length (answer (m .call) s .listed)) (inList (m .answer .which) (m .after .first) (m .after .second))
@@ -42,6 +45,9 @@ pub record AsPlain (s : State) (m : Made) : Type 0 where
   pub not-3 : m .answer .number ≢ 3
   pub not-4 : m .answer .number ≢ 4
   pub visits : m .answer .visits ≤ (4 * D (length (s .plain)) + 1) * (2 * D (length (s .plain)) + 1) + 2 * length (m .answer .listed)
+  pub ascending : Sorted alongX (next (m .call) s .plain)
+  pub once : Distinct sheet (next (m .call) s .plain)
+  pub fits : length (next (m .call) s .plain) ≤ next (m .call) s .capacity
 
 pub data Beside : State → List Made → Type 0 where
   nothing : {s : State} → Beside s []

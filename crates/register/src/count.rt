@@ -10,31 +10,35 @@ use crate::answers::Count;
 use checking::header;
 use geometry::Box;
 use geometry::NewBox;
-use table::limits;
 use table::tally;
 
-// Counts in the table's own words.
-fn count_own(t: &[u32], b: Box) -> Count
-    ensures { λ r. ⌜ countAnswer r ≡ countOwn♯ (boxValue b) (now (t .entry)) ⌝ }
+// Counts in the table's own words, in which no sound tree takes more visits than `most`. A figure that no sound table can have is damage.
+fn count_own(t: &[u32], most: u32, b: Box) -> Count
+    ensures { λ r. ⌜ countAnswer r ≡ countOwn♯ most (boxValue b) (now (t .entry)) ⌝ }
 {
     let tally = primary_search::count::count(t, b.x1, b.x2, b.y1, b.y2);
     let visits = tally::visits(tally);
-    if limits::MOST < visits {
+    if most < visits {
         return Count::Unsound;
     }
-    Count::Counted(tally::found(tally), visits)
+    let marks = tally::found(tally);
+    if table::header::live(t) < marks {
+        return Count::Unsound;
+    }
+    Count::Counted(marks, visits)
 }
 
 fn counted(table: &[u32], x1: u32, x2: u32, y1: u32, y2: u32) -> Count
     ensures { λ r. ⌜ countAnswer r ≡ count♯ (box x1 x2 y1 y2) (now (table .entry)) ⌝ }
 {
-    let own = header::own_words(table);
-    if own == 0 {
+    let own = header::own(table);
+    let words = own.words;
+    if words == 0 {
         return Count::NotTable;
     }
     match Box::new(x1, x2, y1, y2) {
         NewBox::Crossed => Count::Crossed,
-        NewBox::Valid(b) => count_own(&table[0..own], b),
+        NewBox::Valid(b) => count_own(&table[0..words], own.visits, b),
     }
 }
 

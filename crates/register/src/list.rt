@@ -1,10 +1,11 @@
 // List: the marks of a box in two lent lists.
 ghost use mathlib.Core.Path.{_≡_};
 ghost use Prim.Native.Nat.{_*_, _≤_};
-ghost use lib.ListN.{length};
+ghost use lib.ListN.{length, getD};
 ghost use Rattle.model.specs.Sheet.{box};
 ghost use Rattle.model.specs.History as history;
 ghost use Rattle.geometry.specs.Values.{boxValue};
+ghost use Rattle.table.specs.Layout.{livePlace};
 ghost use Rattle.register.specs.Answers.{listAnswer, listFigures};
 ghost use Rattle.register.specs.Mirrors.{ListedOwn, ListsOwn, Lists};
 ghost use Rattle.register.specs.Performs.{Performs, lends};
@@ -12,30 +13,38 @@ use crate::answers::Listing;
 use checking::header;
 use geometry::Box;
 use geometry::NewBox;
-use table::limits;
 use table::tally;
 
 // Lists the k marks that a count has found. Nothing is refused from here on: a refusal changes no lent word.
-fn list_marks(t: &[u32], b: Box, first: &mut [u32], second: &mut [u32], k: u32) -> Listing
-    requires { ⌜ (k ≤ 65536) × (3 * k ≤ length (now first)) × (3 * k ≤ length (now second)) ⌝ }
-    ensures { λ r. ⌜ ListedOwn (boxValue b) k (now (t .entry)) (now (first .entry)) (now (second .entry)) (now (first .exit)) (now (second .exit)) (listFigures r) ⌝ }
+fn list_marks(
+    t: &[u32],
+    most: u32,
+    b: Box,
+    first: &mut [u32],
+    second: &mut [u32],
+    k: u32,
+) -> Listing
+    requires { ⌜ (most ≤ 11781) × (k ≤ 65536) × (3 * k ≤ length (now first)) × (3 * k ≤ length (now second)) ⌝ }
+    ensures { λ r. ⌜ ListedOwn (boxValue b) most k (now (t .entry)) (now (first .entry)) (now (second .entry)) (now (first .exit)) (now (second .exit)) (listFigures r) ⌝ }
 {
     let words = 3 * (k as usize);
-    let tally = primary_search::list::list(t, b, &mut first[0..words], limits::MOST + 2 * k);
+    let tally = primary_search::list::list(t, b, &mut first[0..words], most + 2 * k);
     let which = sorting::sort::sort_lists(first, second, k);
     Listing::Listed(k, tally::visits(tally), which)
 }
 
-// Lists from the table's own words. The count comes first: it tells what the lists must hold, and finds most damage before anything is written.
-fn list_own(t: &[u32], b: Box, first: &mut [u32], second: &mut [u32]) -> Listing
-    ensures { λ r. ⌜ ListsOwn (boxValue b) (now (t .entry)) (now (first .entry)) (now (second .entry)) (now (first .exit)) (now (second .exit)) (listFigures r) ⌝ }
+// Lists from the table's own words, in which no sound tree takes more visits than `most`. The count comes first: it tells what the lists must hold, and
+// finds most damage before anything is written.
+fn list_own(t: &[u32], most: u32, b: Box, first: &mut [u32], second: &mut [u32]) -> Listing
+    requires { ⌜ (most ≤ 11781) × (getD (now t) livePlace 0 ≤ 65536) ⌝ }
+    ensures { λ r. ⌜ ListsOwn (boxValue b) most (now (t .entry)) (now (first .entry)) (now (second .entry)) (now (first .exit)) (now (second .exit)) (listFigures r) ⌝ }
 {
     let tally = primary_search::count::count(t, b.x1, b.x2, b.y1, b.y2);
-    if limits::MOST < tally::visits(tally) {
+    if most < tally::visits(tally) {
         return Listing::Unsound;
     }
     let k = tally::found(tally);
-    if sizes::LARGEST_CAPACITY < k {
+    if table::header::live(t) < k {
         return Listing::Unsound;
     }
     let words = 3 * (k as usize);
@@ -45,7 +54,7 @@ fn list_own(t: &[u32], b: Box, first: &mut [u32], second: &mut [u32]) -> Listing
     if second.len() < words {
         return Listing::Short(k);
     }
-    list_marks(t, b, first, second, k)
+    list_marks(t, most, b, first, second, k)
 }
 
 fn listed(
@@ -59,13 +68,14 @@ fn listed(
 ) -> Listing
     ensures { λ r. ⌜ Lists (box x1 x2 y1 y2) (now (table .entry)) (now (first .entry)) (now (second .entry)) (now (first .exit)) (now (second .exit)) (listFigures r) ⌝ }
 {
-    let own = header::own_words(table);
-    if own == 0 {
+    let own = header::own(table);
+    let words = own.words;
+    if words == 0 {
         return Listing::NotTable;
     }
     match Box::new(x1, x2, y1, y2) {
         NewBox::Crossed => Listing::Crossed,
-        NewBox::Valid(b) => list_own(&table[0..own], b, first, second),
+        NewBox::Valid(b) => list_own(&table[0..words], own.visits, b, first, second),
     }
 }
 

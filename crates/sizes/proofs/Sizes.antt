@@ -2,6 +2,7 @@
 use Prim.Native.Nat.{ℕ, suc, _+_, _*_, _^_, _≤_, _<_, min}
 use mathlib.Core.Path.{_≡_, refl, sym, ap, _∙_}
 use mathlib.Core.Logic.{_≢_}
+use mathlib.Core.Bool.{true, false}
 use native.Mathlib.Omega.{arith}
 use native.Mathlib.Nat.{mul-le-mul}
 use lib.Dec.{eqb, ltb}
@@ -11,7 +12,7 @@ use Rattle.model.specs.Sizes.{D, W, largestCapacity, capacityOutside}
 use Rattle.model.specs.Refusals.{accepted, refused, openTable}
 use Rattle.model.proofs.Logic.{by-cases, or-true-right}
 use Rattle.model.proofs.Sizes.{D-rises}
-use Rattle.sizes.specs.Sizes.{levelsFor, wordsFor}
+use Rattle.sizes.specs.Sizes.{levelsFor, wordsFor, visitsWithin, visitsFor}
 use Rattle.sizes.proofs.Thresholds.{least, level, level-none}
 
 pub levelsFor-within : (c : ℕ) → c ≤ largestCapacity → levelsFor c ≡ D c
@@ -38,22 +39,34 @@ words-fit c d h k =
     let f : c ≤ 2 ^ 32 = omega arith in
     mul-le-mul f g
 
+-- nor does the bound on visits
+pub visits-fit : (d : ℕ) → d ≤ 38 → (4 * d + 1) * (2 * d + 1) ≤ 11781
+visits-fit d h = mul-le-mul {n₁ = 4 * d + 1} {m₁ = 2 * d + 1} {n₂ = 153} {m₂ = 77} (omega arith) (omega arith)
+
 -- the two ways out of range
-pub wordsFor-none : wordsFor 0 ≡ 0
+outside-none : capacityOutside 0 ≡ true
 unfolding capacityOutside
-wordsFor-none = refl
+outside-none = refl
 
-pub wordsFor-past : (c : ℕ) → largestCapacity < c → wordsFor c ≡ 0
+outside-past : (c : ℕ) → largestCapacity < c → capacityOutside c ≡ true
 unfolding capacityOutside
-wordsFor-past c h = rw (or-true-right (eqb c 0) (ltb largestCapacity c) (lt-ltb largestCapacity c h))
+outside-past c h = or-true-right (eqb c 0) (ltb largestCapacity c) (lt-ltb largestCapacity c h)
 
-pub wordsFor-within : (c : ℕ) → c ≢ 0 → c ≤ largestCapacity → wordsFor c ≡ W c
+inside : (c : ℕ) → c ≢ 0 → c ≤ largestCapacity → capacityOutside c ≡ false
 unfolding capacityOutside
-wordsFor-within c h k = rw (ne-eqb c 0 h, le-ltb largestCapacity c k)
+inside c h k = rw (ne-eqb c 0 h, le-ltb largestCapacity c k)
 
-pub W-levels : (c : ℕ) → c ≤ largestCapacity → W c ≡ 64 + c * (32 + 16 * levelsFor c)
-unfolding W
-W-levels c h = ap (λ d. 64 + c * (32 + 16 * d)) (sym (levelsFor-within c h))
+pub size-none : (0 ≡ wordsFor 0) × (0 ≡ visitsFor 0)
+size-none = rw outside-none (refl, refl)
+
+pub size-past : (c : ℕ) → largestCapacity < c → (0 ≡ wordsFor c) × (0 ≡ visitsFor c)
+size-past c h = rw (outside-past c h) (refl, refl)
+
+-- in range, by the levels
+pub size-within : (c d : ℕ) → c ≢ 0 → c ≤ largestCapacity → d ≡ levelsFor c
+    → (64 + c * (32 + 16 * d) ≡ wordsFor c) × ((4 * d + 1) * (2 * d + 1) ≡ visitsFor c)
+unfolding W visitsWithin
+size-within c d h k e = rw (inside c h k, e, levelsFor-within c k) (refl, refl)
 
 -- opening by the words that the capacity needs, none where it is out of range
 module _ (c lent : ℕ) where

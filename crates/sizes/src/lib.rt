@@ -1,10 +1,16 @@
 // How many levels and words a table needs for its capacity (document 01, "Marks, boxes, tables").
 ghost use mathlib.Core.Path.{_≡_};
 ghost use Rattle.model.specs.Refusals.{openTable};
-ghost use Rattle.sizes.specs.Sizes.{levelsFor, wordsFor, openingOutcome};
+ghost use Rattle.sizes.specs.Sizes.{levelsFor, wordsFor, visitsFor, openingOutcome};
 
 // The largest capacity.
 pub const LARGEST_CAPACITY: u32 = 65536;
+
+// What a capacity C asks of a table: its words, W(C), and the most visits of a count in it, (4 D(C) + 1) (2 D(C) + 1). Both are 0 for a capacity out of range.
+pub struct Size {
+    pub words: usize,
+    pub visits: u32,
+}
 
 // What opening a table finds: the words it needs, or why it cannot be.
 pub enum Opening {
@@ -60,17 +66,34 @@ pub fn levels(capacity: u32) -> u32
     }
 }
 
+pub fn size_for(capacity: u32) -> Size
+    ensures { λ r. ⌜ (r .words ≡ wordsFor capacity) × (r .visits ≡ visitsFor capacity) ⌝ }
+{
+    if capacity == 0 {
+        return Size {
+            words: 0,
+            visits: 0,
+        };
+    }
+    if LARGEST_CAPACITY < capacity {
+        return Size {
+            words: 0,
+            visits: 0,
+        };
+    }
+    let d = levels(capacity);
+    Size {
+        words: 64 + (capacity as usize) * (32 + 16 * (d as usize)),
+        visits: (4 * d + 1) * (2 * d + 1),
+    }
+}
+
 // W(C), the words of a table; 0 for a capacity out of range.
 pub fn words(capacity: u32) -> usize
     ensures { λ r. ⌜ r ≡ wordsFor capacity ⌝ }
 {
-    if capacity == 0 {
-        return 0;
-    }
-    if LARGEST_CAPACITY < capacity {
-        return 0;
-    }
-    64 + (capacity as usize) * (32 + 16 * (levels(capacity) as usize))
+    let needed = size_for(capacity);
+    needed.words
 }
 
 // Whether a run of `lent` words can be opened for the capacity.

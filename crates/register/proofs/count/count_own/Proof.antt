@@ -1,36 +1,60 @@
+-- `count_own` meets its contract: the visits and the marks of the tally are tested before they are told. Assumes nothing.
+use borrow.Author.Needs.{needs}
 use borrow.Author.Tests.{lt-ltb, le-ltb}
 use Rattle.register.specs.Mirrors.{countOwn♯, tallied}
-use borrow.Author.Needs.{needs}
 use Rattle.register.proofs.count.count_own.Statement.{statement}
 use Rattle.register.proofs.count.count_own.Tie as tie
 use Rattle.register.proofs.count.count_own.Reads as reads
 use Rattle.register.proofs.count.count_own.Lts as lts
 use Rattle.primary_search.proofs.count.count.Reads as count-reads
+use Rattle.table.proofs.header.live.Reads as live-reads
 use Rattle.table.proofs.tally.found.Reads as found-reads
 use Rattle.table.proofs.tally.visits.Reads as visits-reads
 
--- src/count.rt:20:9
 count-requires : tie.Need-count-requires
 count-requires c κs = search needs
 
--- src/count.rt:21:9
 visits-requires : tie.Need-visits-requires
 visits-requires c κs = search needs
 
--- src/count.rt:23:9
 returns : tie.Need-returns
 unfolding countOwn♯ tallied
 returns c = rw (← c .before .before .count .ensures, ← c .before .visits .ensures, lt-ltb _ _ (c .if1 .taken))
 
--- src/count.rt:25:20
 found-requires : tie.Need-found-requires
 found-requires c κs = search needs
 
--- src/count.rt:17:1
+live-requires : tie.Need-live-requires
+live-requires c κs = search needs
+
 returns-2 : tie.Need-returns-2
 unfolding countOwn♯ tallied
-returns-2 c = rw (← c .before .before .before .count .ensures, ← c .before .before .visits .ensures, le-ltb _ _ (c .before .if1 .left), ← c .found .ensures)
+returns-2 c =
+    let at-found = c .before .before in
+    let at-visits = at-found .before .before in
+    rw (
+      ← at-visits .before .count .ensures,
+      ← at-visits .visits .ensures,
+      le-ltb _ _ (at-found .before .if1 .left),
+      ← at-found .found .ensures,
+      ← c .before .live .ensures,
+      lt-ltb _ _ (c .if2 .taken),
+    )
+
+returns-3 : tie.Need-returns-3
+unfolding countOwn♯ tallied
+returns-3 c =
+    let at-found = c .before .before in
+    let at-visits = at-found .before .before in
+    rw (
+      ← at-visits .before .count .ensures,
+      ← at-visits .visits .ensures,
+      le-ltb _ _ (at-found .before .if1 .left),
+      ← at-found .found .ensures,
+      ← c .before .live .ensures,
+      le-ltb _ _ (c .if2 .left),
+    )
 
 pub count-own-spec : {M : Type 1} → statement M
 count-own-spec =
-    tie.close (tie.spec count-requires visits-requires returns found-requires returns-2)
+    tie.close (tie.spec count-requires visits-requires returns found-requires live-requires returns-2 returns-3)

@@ -52,9 +52,12 @@ same-length c = search needs
 same-length-2 : tie.Need-same-length-2
 same-length-2 c = search needs
 
--- src/list.rt:19:1
 returns : tie.Need-returns
-returns c = list-marks _ _ _ _ _ _ _ _ _ _ _ (c .before .before .before .before .before .before .before .before .before .before .list .ensures) (c .before .before .before .before .before .before .before .before .before .before .list .kept .1 .1 .0) (c .visits .ensures) (c .before .before .before .before .before .sort-lists .ensures .0) (c .before .before .before .before .before .sort-lists .ensures .1)
+returns c =
+    let at-sorted = c .before .before .before .before .before in
+    let at-listed = at-sorted .before .before .before .before .before in
+    list-marks _ _ _ _ _ _ _ _ _ _ _ _ (at-listed .list .ensures) (at-listed .list .kept .1 .1 .0) (c .visits .ensures) (at-sorted .sort-lists .ensures .0)
+    (at-sorted .sort-lists .ensures .1)
 
 pub list-marks-spec : {M : Type 1} → statement M
 list-marks-spec =
