@@ -22,17 +22,57 @@ static uint32_t settled_number(struct call c, const struct loan *l) {
     return REGISTER_OK;
 }
 
-/* What document 01 says of a number that rests on the words of an unsound table. */
-static int may_give(struct call c, struct answer r, const struct loan *l) {
+/* Where the search for a mark comes to by the words, coded from docs/LAYOUT.md: a slot that has it, one that has another mark or none at all, or nowhere. */
+enum sought { HAS, LACKS, NOWHERE };
+
+static enum sought sought_by_words(const uint32_t *t, struct mark m) {
+    uint32_t node = t[3];
+    if (t[4] == 0) return LACKS;
+    for (int steps = 0; steps < 1000; steps++) {
+        if (node / 2 >= t[1]) return NOWHERE;
+        const uint32_t *slot = t + HEADER + 16 * (size_t)(node / 2);
+        struct mark here = {slot[0], slot[1], slot[2]};
+        if (node % 2 == 0) return same_mark(here, m) ? HAS : LACKS;
+        node = slot[below(ALONG_X, m, here) ? 3 : 7];
+    }
+    return NOWHERE;
+}
+
+/* What a count of the same box gives on the words as they were. */
+static struct answer counted_before(struct box b, const struct loan *l) {
+    struct answer r = {0};
+    r.number = register_count(l->table.kept, l->table.words, b.x1, b.x2, b.y1, b.y2, &r.count, &r.visits);
+    return r;
+}
+
+/* (4 D + 1) (2 D + 1) for the capacity's levels. */
+static uint32_t most_visits(uint32_t capacity) { return (4 * levels_for(capacity) + 1) * (2 * levels_for(capacity) + 1); }
+
+/* What document 01 says of an answer that rests on the words of an unsound table: it comes by the words that were met. */
+static int update_may_give(struct call c, struct answer r, const uint32_t *was) {
+    enum sought found = sought_by_words(was, c.mark);
+    int full = was[2] == was[1];
+    if (r.number == REGISTER_PRESENT) return found == HAS;
+    if (r.number == REGISTER_ABSENT) return found == LACKS;
+    if (r.number == REGISTER_FULL) return found == LACKS && full;
+    if (r.number != REGISTER_OK) return 1;
+    return c.kind == INSERT ? found == LACKS && !full : found == HAS;
+}
+
+static int search_may_give(struct call c, struct answer r, const struct loan *l) {
     const uint32_t *was = l->table.kept;
     size_t needed = 3 * (size_t)r.count;
-    int full = was[2] == was[1], longer = needed <= l->lent[0] && needed <= l->lent[1];
-    if (r.number == REGISTER_FULL) return full;
-    if (r.number == REGISTER_SHORT_LIST) return !longer;
-    if (r.number != REGISTER_OK) return 1;
-    if (c.kind == INSERT) return !full;
-    if (c.kind == LIST) return longer && (r.which == 1 || r.which == 2);
-    return 1;
+    int longer = needed <= l->lent[0] && needed <= l->lent[1];
+    if (r.number != REGISTER_OK && r.number != REGISTER_SHORT_LIST) return 1;
+    if (r.count > was[2]) return 0;
+    if (c.kind == COUNT) return r.visits <= most_visits(was[1]);
+    if (r.count != counted_before(c.box, l).count) return 0;
+    return r.number == REGISTER_SHORT_LIST ? !longer : longer && (r.which == 1 || r.which == 2);
+}
+
+static int may_give(struct call c, struct answer r, const struct loan *l) {
+    if (c.kind == INSERT || c.kind == STRIKE) return update_may_give(c, r, l->table.kept);
+    return c.kind == COUNT || c.kind == LIST ? search_may_give(c, r, l) : 1;
 }
 
 /* A sound table never gives 4, its marks decide what a call gives, and an update leaves a sound one. */
@@ -182,6 +222,41 @@ static void doubled_ways(void) {
     pay_back(l);
 }
 
+/* A lone leaf of a slot that the table does not have: no update takes it for a mark, nor for the lack of one. */
+static void phantom_leaf(void) {
+    struct loan l = borrow(words_for(1), 9);
+    struct mark zero = {0, 0, 0};
+    struct call some[] = {inserting(zero), striking(zero), inserting((struct mark){1, 2, 3})};
+    for (size_t i = 0; i < sizeof some / sizeof *some; i++) {
+        static const uint32_t leaf[] = {2 * 1000000, 1, 0, 0};
+        ask(opening(1), &l);
+        l.table.word[2] = 1;
+        memcpy(l.table.word + 3, leaf, sizeof leaf);
+        CHECK(ask(some[i], &l).number == REGISTER_UNSOUND && l.table.word[0] == 0);
+    }
+    pay_back(l);
+}
+
+/* Two marks, and a weight that says 65,536: no count tells of more marks than are live, and no list goes by it. */
+static void lying_weight(void) {
+    struct loan l = borrow(words_for(2), 3 * LARGEST);
+    struct box all = {0, UINT32_MAX, 0, UINT32_MAX};
+    ask(opening(2), &l);
+    for (uint32_t i = 0; i < 2; i++) ask(inserting((struct mark){i, i, i}), &l);
+    CHECK(ask(counting(all), &l).count == 2);
+    for (size_t i = 0; i < l.table.words; i++) {
+        uint32_t was = l.table.word[i];
+        if (was != 2 || i < HEADER) continue;
+        l.table.word[i] = LARGEST;    /* each word that may be a weight of the root */
+        try_call(counting(all), &l);
+        try_call(listing(all), &l);
+        l.table.word[i] = was;
+    }
+    l.table.word[HEADER + 16 * (size_t)(l.table.word[3] / 2) + 12] = LARGEST;    /* the weight of the root's auxiliary tree */
+    CHECK(ask(counting(all), &l).number == REGISTER_UNSOUND && ask(listing(all), &l).number == REGISTER_UNSOUND);
+    pay_back(l);
+}
+
 /* Every number that a damaged table can give came up. */
 static void check_numbers(void) {
     for (int kind = 0; kind < KINDS; kind++)
@@ -200,6 +275,8 @@ int main(void) {
     short_runs();
     checks_limit(60);
     doubled_ways();
+    phantom_leaf();
+    lying_weight();
     fprintf(stderr, "%lu calls, %lu on sound tables; the slowest took %.3f s\n", calls, sound_ones, (double)slowest / CLOCKS_PER_SEC);
     check_numbers();
     return checks_report();
