@@ -36,7 +36,7 @@ use Rattle.twofold.specs.Rules.{SlotMain, slotAuxiliary, slotMain, AuxiliariesO
 use Rattle.twofold.specs.TwoFold.{TwoFold}
 use Rattle.twofold.proofs.Frames.{root-spot}
 use Rattle.twofold.proofs.Kept.{Clear, clear-spot, kept-header, kept-lists}
-use Rattle.twofold.proofs.Over.{TwoLeavesAt}
+use Rattle.twofold.proofs.Over.{TwoLeavesAt, TableFrame, table-frame}
 use Rattle.twofold.proofs.Rules.{slotSameness, slotX-laws, insert-rules}
 use Rattle.twofold.proofs.Stands.{stands-marks, stands-insert, stands-insertRebuilt}
 use Rattle.twofold.proofs.Agrees.{countIf-map}
@@ -292,3 +292,10 @@ module _ (xs : List ℕ) (T : Main) (h : Holding xs T) (m : Mark) (within : mark
 
   pub insert-capacity : capacityOf (tableInsert♯ m xs .words) ≡ capacityOf xs
   insert-capacity = rw goes (put-lists .capacity)
+
+  -- WHAT IT LEAVES ALONE: of the words with the mark entered all but the tree's, and of those before all but the mark's and the live marks'
+  pub insert-frame : TableFrame C vs (tableInsert♯ m xs .words)
+  insert-frame = rw goes (table-frame (put .leaves))
+
+  pub insert-entered : (i : ℕ) → (i ≡ livePlace → ⊥) → ((q : ℕ) → q < C → (i < slotPlace q) ⊎ (slotPlace q + 3 ≤ i)) → getD vs i 0 ≡ getD xs i 0
+  insert-entered i ne out = entered-other m slot (liveOf xs) xs enough i ne (out slot (free .0))

@@ -5,3 +5,4 @@ pub mod Emptying
 pub mod Searching
 pub mod Inserting
 pub mod Striking
+pub mod Gaps

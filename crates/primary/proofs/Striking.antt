@@ -2,7 +2,7 @@
 use Prim.Native.Nat.{ℕ, _+_, _-_, _≤_, _<_}
 use mathlib.Core.Path.{_≡_, refl, sym, ap, ap₂, subst, _∙_}
 use mathlib.Core.List.{List}
-use mathlib.Core.Logic.{inl}
+use mathlib.Core.Logic.{_⊎_, inl}
 use mathlib.Core.Option.{Option, none, some}
 use native.Mathlib.Omega.{arith}
 use lib.Dec.{eqb}
@@ -23,10 +23,10 @@ use Rattle.table.specs.Layout.{openPlace, livePlace, rootPlace, usedPlace, runP
 use Rattle.table.specs.Marks.{slotMark}
 use Rattle.nodes.specs.Holds.{timesIn, times}
 use Rattle.table.specs.After.{After, after}
-use Rattle.nodes.proofs.Held.{Names}
 use Rattle.nodes.proofs.Levels.{table-main}
 use Rattle.twofold.specs.Rules.{SlotAuxiliary, SlotMain, slotAuxiliary, slotMain, ByRules, marksMain}
-use Rattle.twofold.proofs.Frames.{TwoFrame}
+use Rattle.twofold.proofs.Frames.{twoFrame-weaken}
+use Rattle.twofold.proofs.Over.{TableFrame, table-frame}
 use Rattle.twofold.proofs.Kept.{kept-header, kept-capacity, kept-lists}
 use Rattle.twofold.proofs.Rules.{slot-count, strike-rules}
 use Rattle.twofold.proofs.Stands.{stands-strike, stands-strikeRebuilt}
@@ -51,19 +51,17 @@ record Taken (f : ℕ → Mark) (s : ℕ) (xs : List ℕ) (p : After ℕ) (o : O
   out : p .out ≡ strikeRebuilt (slotAxis f alongX) (slotAuxiliary f) s o
   fine : p .out ≡ damaged → ⊥
   slots : (q : ℕ) → timesIn q (marksOf (slotMain f .strike s o)) + indicator (eqb q s) ≡ timesIn q (marksOf o)
-  long : length (p .words) ≡ length xs
-  header : (i : ℕ) → i < rootPlace → getD (p .words) i 0 ≡ getD xs i 0
-  lists : SameLists xs (p .words)
+  frame : TableFrame (capacityOf xs) xs (p .words)
 
--- what a frame over the whole tree leaves
-module _ {C : ℕ} {P Q : ℕ → Type 0} {xs ys : List ℕ} (capacity : capacityOf xs ≡ C) (low : (q : ℕ) → P q → q < C) (a : TwoFrame C 0 P Q rootPlace 4 xs ys) where
+-- what such a frame leaves
+module _ {xs ys : List ℕ} (a : TableFrame (capacityOf xs) xs ys) where
   frame-header : (i : ℕ) → i < rootPlace → getD ys i 0 ≡ getD xs i 0
-  frame-header i h = kept-header low (root-clear C) a i (omega arith) (inl h)
+  frame-header i h = kept-header (λ q k. k) (root-clear (capacityOf xs)) a i (omega arith) (inl h)
 
   frame-lists : SameLists xs ys
   frame-lists = record {
-    capacity = kept-capacity low (root-clear C) a;
-    same = λ i l h. kept-lists low (root-clear C) a i (subst (λ c. usedPlace c 0 ≤ i) capacity l) (subst (λ c. i < runPlace c 0) capacity h);
+    capacity = kept-capacity (λ q k. k) (root-clear (capacityOf xs)) a;
+    same = kept-lists (λ q k. k) (root-clear (capacityOf xs)) a;
   }
 
 -- the slots of the tree after a strike
@@ -99,9 +97,7 @@ module _ (xs : List ℕ) (s : ℕ) (small : capacityOf xs ≤ 65536) (long : len
         out = k .1;
         fine = λ e. omega (arith, k .1);
         slots = λ z. lone-slots s q z n;
-        long = k .2 .long;
-        header = frame-header refl (λ q z. absurd z) (k .2);
-        lists = frame-lists refl (λ q z. absurd z) (k .2);
+        frame = twoFrame-weaken (omega arith) (λ q z. absurd z) (λ q z. absurd z) (k .2);
       }
   taken-of (some (node i l r)) h b n =
       let k = mainStrike-holds f (capacityOf xs) small s i l r xs long refl (h .0) (h .1) b n in
@@ -109,18 +105,14 @@ module _ (xs : List ℕ) (s : ℕ) (small : capacityOf xs ≤ 65536) (long : len
       let t = rebalance (slotAxis f alongX) (slotAuxiliary f) u in
       let a = k .leaves in
       let by = strike-rules f s (node i l r) (slot-count f s (node i l r) n) b u refl in
-      let low : ((q : ℕ) → Names t q → q < capacityOf xs) = λ q z. a .held .main .within q (z .0) in
-      let m = frame-lists refl low (a .frame) in
       record {
-        holds = settled-holds t (a .is) (a .held) by (m .capacity);
+        holds = settled-holds t (a .is) (a .held) by (frame-lists (table-frame a) .capacity);
         rules = settled-rules t (a .is) (a .held) by;
         stands = settled-stands t (a .is) (a .held) by;
         out = k .figure;
         fine = k .sound;
         slots = strike-slots f s i l r b n;
-        long = a .frame .long;
-        header = frame-header refl low (a .frame);
-        lists = m;
+        frame = table-frame a;
       }
 
 -- THE TABLE
@@ -150,18 +142,21 @@ module _ (xs : List ℕ) (T : Main) (h : Holding xs T) (m : Mark) (has : 0 < cou
   abbrev zs : List ℕ
   zs = p .words
 
+  lists : SameLists xs zs
+  lists = frame-lists (taken .frame)
+
   live-kept : liveOf zs ≡ liveOf xs
-  live-kept = taken .header livePlace (omega arith)
+  live-kept = frame-header (taken .frame) livePlace (omega arith)
 
   frees : Freeing slot zs
   frees =
-      let e = taken .lists .capacity in
-      freeing (each-once-same (taken .lists) live-kept (h .free)) slot (subst (λ c. slot < c) (sym e) (found .0)) (rw (e, live-kept) (live-within h)) (found .2)
+      let e = lists .capacity in
+      freeing (each-once-same lists live-kept (h .free)) slot (subst (λ c. slot < c) (sym e) (found .0)) (rw (e, live-kept) (live-within h)) (found .2)
 
   freed : EachOnce (freeSlot♯ slot zs) o × (liveOf (freeSlot♯ slot zs) ≡ liveOf xs - 1)
   freed =
-      each-once-strike (taken .lists) live-kept (h .free) slot (found .0) (live-within h) (found .2)
-      (omega (arith, taken .long, h .long, table-main (capacityOf xs) (holding-small xs T h) .runRoom)) (taken .slots)
+      each-once-strike lists live-kept (h .free) slot (found .0) (live-within h) (found .2)
+      (omega (arith, taken .frame .long, h .long, table-main (capacityOf xs) (holding-small xs T h) .runRoom)) (taken .slots)
 
   struck-marks : marksOf (main .strike m T) ≡ removeFirst (same m) (marksOf T)
   struck-marks = main-strike-marks m T (holding-agrees xs T h .sorted) has
@@ -173,11 +168,11 @@ module _ (xs : List ℕ) (T : Main) (h : Holding xs T) (m : Mark) (has : 0 < cou
 
   taken-holding : Holding (freeSlot♯ slot zs) (main .strike m T)
   taken-holding =
-      let e : capacityOf (freeSlot♯ slot zs) ≡ capacityOf xs = freeSlot-capacity frees ∙ taken .lists .capacity in
+      let e : capacityOf (freeSlot♯ slot zs) ≡ capacityOf xs = freeSlot-capacity frees ∙ lists .capacity in
       record {
-        isOpen = freeSlot-other slot zs frees openPlace (omega arith) (inl (omega arith)) ∙ taken .header openPlace (omega arith) ∙ h .isOpen;
+        isOpen = freeSlot-other slot zs frees openPlace (omega arith) (inl (omega arith)) ∙ frame-header (taken .frame) openPlace (omega arith) ∙ h .isOpen;
         capacity = rw e (h .capacity);
-        long = freeSlot-length slot zs ∙ taken .long ∙ h .long ∙ ap W (sym e);
+        long = freeSlot-length slot zs ∙ taken .frame .long ∙ h .long ∙ ap W (sym e);
         slots = o;
         stands = stands-taken;
         holds = freeSlot-holds frees o (taken .holds) (taken .rules);
@@ -197,4 +192,11 @@ module _ (xs : List ℕ) (T : Main) (h : Holding xs T) (m : Mark) (has : 0 < cou
       )
 
   pub strike-capacity : capacityOf (tableStrike♯ m (find♯ xs m) xs .words) ≡ capacityOf xs
-  strike-capacity = rw goes (freeSlot-capacity frees ∙ taken .lists .capacity)
+  strike-capacity = rw goes (freeSlot-capacity frees ∙ lists .capacity)
+
+  -- WHAT IT LEAVES ALONE: all but the tree's words, and then all but the live marks' and the lists of slots
+  pub strike-frame : (zs : List ℕ) × TableFrame (capacityOf xs) xs zs
+      × ((i : ℕ) → (i ≡ livePlace → ⊥) → (i < usedPlace (capacityOf xs) 0) ⊎ (runPlace (capacityOf xs) 0 ≤ i)
+      → getD (tableStrike♯ m (find♯ xs m) xs .words) i 0 ≡ getD zs i 0)
+  strike-frame =
+      rw goes (zs, taken .frame, λ i ne out. freeSlot-other slot zs frees i ne (rw (lists .capacity) out))

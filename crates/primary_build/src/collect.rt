@@ -48,11 +48,12 @@ pub fn collect(
         if capacity <= got {
             return LOST;
         }
-        let s = at.slot();
         if at.is_leaf() {
+            let s = at.slot();
             return take(t, capacity, but, s, got);
         }
-        let p = PrimaryRecord::at(t, s);
+        let name = at.slot();
+        let p = PrimaryRecord::at(t, name);
         let l = p.left;
         let r = p.right;
         let left_node = l.node;

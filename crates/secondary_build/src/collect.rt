@@ -31,12 +31,13 @@ pub fn collect(
         if most <= got {
             return LOST;
         }
-        let s = at.slot();
         if at.is_leaf() {
+            let s = at.slot();
             runs::put_run(t, capacity, got, s);
             return got + 1;
         }
-        let p = SecondaryRecord::at(t, base, s);
+        let name = at.slot();
+        let p = SecondaryRecord::at(t, base, name);
         let l = p.left;
         let r = p.right;
         let left_node = l.node;

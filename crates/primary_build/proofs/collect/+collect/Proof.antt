@@ -45,10 +45,10 @@ collect-μ-loop t₀ capacity but taken weight fuel at₀ got₀ rest₀ left₀
 
 abbrev said : ℕ → collect-lts.Claims
 said t = (
-  slot-reads.Asked,
-  slot-reads.Learnt,
   is-leaf-reads.Asked,
   is-leaf-reads.Learnt,
+  slot-reads.Asked,
+  slot-reads.Learnt,
   take-reads.Asked,
   take-reads.Learnt,
   at-reads.Asked,
@@ -82,15 +82,15 @@ collect-returns t c = rw (
   le-leb _ _ (c .if1 .taken),
 )
 
--- src/collect.rt:51:13
-collect-slot-requires :
-    (t : ℕ) → collect-lts.Need-slot-requires (said t) (collect-at t) collect.Post collect-Inv-loop collect-μ-loop
-collect-slot-requires t c κs = search needs
-
--- src/collect.rt:52:12
+-- src/collect.rt:51:12
 collect-is-leaf-requires :
     (t : ℕ) → collect-lts.Need-is-leaf-requires (said t) (collect-at t) collect.Post collect-Inv-loop collect-μ-loop
 collect-is-leaf-requires t c κs = search needs
+
+-- src/collect.rt:52:17
+collect-slot-requires :
+    (t : ℕ) → collect-lts.Need-slot-requires (said t) (collect-at t) collect.Post collect-Inv-loop collect-μ-loop
+collect-slot-requires t c κs = search needs
 
 -- src/collect.rt:53:13
 collect-take-requires :
@@ -107,10 +107,10 @@ collect-returns-2 :
     (t : ℕ) → collect-lts.Need-returns-2 (said t) (collect-at t) collect.Post collect-Inv-loop collect-μ-loop
 collect-returns-2 t c =
     let at-take = c .before .before in
-    let at-if2 = at-take .before .before in
+    let at-slot = at-take .before .before in
+    let at-if2 = at-slot .before in
     let at-is-leaf = at-if2 .before in
-    let at-slot = at-is-leaf .before in
-    let at-if1 = at-slot .before in
+    let at-if1 = at-is-leaf .before in
     let at-loop-test = at-if1 .before in
     let at-loop = at-loop-test .before in
     rw (
@@ -122,74 +122,79 @@ collect-returns-2 t c =
     )
 
 -- src/collect.rt:55:13
+collect-slot-requires-2 :
+    (t : ℕ) → collect-lts.Need-slot-requires-2 (said t) (collect-at t) collect.Post collect-Inv-loop collect-μ-loop
+collect-slot-requires-2 t c κs = search needs
+
+-- src/collect.rt:56:13
 collect-at-requires :
     (t : ℕ) → collect-lts.Need-at-requires (said t) (collect-at t) collect.Post collect-Inv-loop collect-μ-loop
 collect-at-requires t c κs = search needs
 
--- src/collect.rt:62:13
+-- src/collect.rt:63:13
 collect-same-length-3 :
     (t : ℕ) → collect-lts.Need-same-length-3 (said t) (collect-at t) collect.Post collect-Inv-loop collect-μ-loop
 collect-same-length-3 t c = search needs
 
--- src/collect.rt:62:13
+-- src/collect.rt:63:13
 collect-returns-3 :
     (t : ℕ) → collect-lts.Need-returns-3 (said t) (collect-at t) collect.Post collect-Inv-loop collect-μ-loop
 unfolding collectBoth
 collect-returns-3 t c =
     let at-at = c .before .before .before .before .before in
-    let at-if2 = at-at .before .before in
+    let at-slot2 = at-at .before .before in
+    let at-if2 = at-slot2 .before in
     let at-is-leaf = at-if2 .before in
-    let at-slot = at-is-leaf .before in
-    let at-if1 = at-slot .before in
+    let at-if1 = at-is-leaf .before in
     let at-loop-test = at-if1 .before in
     let at-loop = at-loop-test .before in
     rw (
       ← at-loop .loop .inv .2,
       collectBut-inner _ (positive _ (at-loop-test .loop-test .taken)) _ _ _ _ _ _ (at-if1 .if1 .left)
           (sym (at-is-leaf .is-leaf .ensures) ∙ at-if2 .if2 .left),
-      ← at-slot .slot .ensures,
+      ← at-slot2 .slot2 .ensures,
       ← at-at .at .ensures,
       eq-eqb _ _ (c .if3 .taken),
     )
 
--- src/collect.rt:65:13
+-- src/collect.rt:66:13
 collect-same-length-4 :
     (t : ℕ) → collect-lts.Need-same-length-4 (said t) (collect-at t) collect.Post collect-Inv-loop collect-μ-loop
 collect-same-length-4 t c = search needs
 
--- src/collect.rt:65:13
+-- src/collect.rt:66:13
 collect-returns-4 :
     (t : ℕ) → collect-lts.Need-returns-4 (said t) (collect-at t) collect.Post collect-Inv-loop collect-μ-loop
 unfolding collectBoth
 collect-returns-4 t c =
     let at-at = c .before .before .before .before .before .before in
-    let at-if2 = at-at .before .before in
+    let at-slot2 = at-at .before .before in
+    let at-if2 = at-slot2 .before in
     let at-is-leaf = at-if2 .before in
-    let at-slot = at-is-leaf .before in
-    let at-if1 = at-slot .before in
+    let at-if1 = at-is-leaf .before in
     let at-loop-test = at-if1 .before in
     let at-loop = at-loop-test .before in
     rw (
       ← at-loop .loop .inv .2,
       collectBut-inner _ (positive _ (at-loop-test .loop-test .taken)) _ _ _ _ _ _ (at-if1 .if1 .left)
           (sym (at-is-leaf .is-leaf .ensures) ∙ at-if2 .if2 .left),
-      ← at-slot .slot .ensures,
+      ← at-slot2 .slot2 .ensures,
       ← at-at .at .ensures,
       ne-eqb _ _ (c .before .if3 .left),
       le-leb _ _ (c .if4 .taken),
     )
 
--- src/collect.rt:67:12
+-- src/collect.rt:68:12
 collect-is-leaf-requires-2 :
     (t : ℕ) → collect-lts.Need-is-leaf-requires-2 (said t) (collect-at t) collect.Post collect-Inv-loop collect-μ-loop
 collect-is-leaf-requires-2 t c κs = search needs
 
--- src/collect.rt:69:17
+-- src/collect.rt:70:17
 collect-same-length-5 :
     (t : ℕ) → collect-lts.Need-same-length-5 (said t) (collect-at t) collect.Post collect-Inv-loop collect-μ-loop
 collect-same-length-5 t c = search needs
 
--- src/collect.rt:69:17
+-- src/collect.rt:70:17
 collect-returns-5 :
     (t : ℕ) → collect-lts.Need-returns-5 (said t) (collect-at t) collect.Post collect-Inv-loop collect-μ-loop
 unfolding collectBoth
@@ -197,34 +202,34 @@ collect-returns-5 t c =
     let at-if4 = c .before .before .before in
     let at-if3 = at-if4 .before in
     let at-at = at-if3 .before .before .before .before .before in
-    let at-if2 = at-at .before .before in
+    let at-slot2 = at-at .before .before in
+    let at-if2 = at-slot2 .before in
     let at-is-leaf = at-if2 .before in
-    let at-slot = at-is-leaf .before in
-    let at-if1 = at-slot .before in
+    let at-if1 = at-is-leaf .before in
     let at-loop-test = at-if1 .before in
     let at-loop = at-loop-test .before in
     rw (
       ← at-loop .loop .inv .2,
       collectBut-inner _ (positive _ (at-loop-test .loop-test .taken)) _ _ _ _ _ _ (at-if1 .if1 .left)
           (sym (at-is-leaf .is-leaf .ensures) ∙ at-if2 .if2 .left),
-      ← at-slot .slot .ensures,
+      ← at-slot2 .slot2 .ensures,
       ← at-at .at .ensures,
       ne-eqb _ _ (at-if3 .if3 .left),
       lt-leb _ _ (at-if4 .if4 .left),
       collectBut-spent _ (c .if6 .taken),
     )
 
--- src/collect.rt:71:42
-collect-slot-requires-2 :
-    (t : ℕ) → collect-lts.Need-slot-requires-2 (said t) (collect-at t) collect.Post collect-Inv-loop collect-μ-loop
-collect-slot-requires-2 t c κs = search needs
+-- src/collect.rt:72:42
+collect-slot-requires-3 :
+    (t : ℕ) → collect-lts.Need-slot-requires-3 (said t) (collect-at t) collect.Post collect-Inv-loop collect-μ-loop
+collect-slot-requires-3 t c κs = search needs
 
--- src/collect.rt:71:13
+-- src/collect.rt:72:13
 collect-take-requires-2 :
     (t : ℕ) → collect-lts.Need-take-requires-2 (said t) (collect-at t) collect.Post collect-Inv-loop collect-μ-loop
 collect-take-requires-2 t c κs = search needs
 
--- src/collect.rt:72:13
+-- src/collect.rt:73:13
 collect-sub-rest :
     (t : ℕ) → collect-lts.Need-sub-rest (said t) (collect-at t) collect.Post collect-Inv-loop collect-μ-loop
 collect-sub-rest t c = search needs
@@ -240,17 +245,17 @@ collect-loop-again :
 unfolding collectBoth collectRight
 collect-loop-again t c =
     let at-take2 = c .before .before in
-    let at-slot2 = at-take2 .before in
-    let at-if6 = at-slot2 .before .before in
+    let at-slot3 = at-take2 .before in
+    let at-if6 = at-slot3 .before .before in
     let at-if5 = at-if6 .before in
     let at-is-leaf2 = at-if5 .before in
     let at-if4 = at-is-leaf2 .before in
     let at-if3 = at-if4 .before in
     let at-at = at-if3 .before .before .before .before .before in
-    let at-if2 = at-at .before .before in
+    let at-slot2 = at-at .before .before in
+    let at-if2 = at-slot2 .before in
     let at-is-leaf = at-if2 .before in
-    let at-slot = at-is-leaf .before in
-    let at-if1 = at-slot .before in
+    let at-if1 = at-is-leaf .before in
     let at-loop-test = at-if1 .before in
     let at-loop = at-loop-test .before in (
       search (needs, at-loop .loop .inv .0),
@@ -259,23 +264,23 @@ collect-loop-again t c =
         ← at-loop .loop .inv .2,
         collectBut-inner _ (positive _ (at-loop-test .loop-test .taken)) _ _ _ _ _ _ (at-if1 .if1 .left)
             (sym (at-is-leaf .is-leaf .ensures) ∙ at-if2 .if2 .left),
-        ← at-slot .slot .ensures,
+        ← at-slot2 .slot2 .ensures,
         ← at-at .at .ensures,
         ne-eqb _ _ (at-if3 .if3 .left),
         lt-leb _ _ (at-if4 .if4 .left),
         collectBut-left-leaf _ (at-if6 .if6 .left) _ _ _ _ _ _ (at-if1 .if1 .left)
             (sym (at-is-leaf2 .is-leaf2 .ensures) ∙ at-if5 .if5 .taken),
-        ← at-slot2 .slot2 .ensures,
+        ← at-slot3 .slot3 .ensures,
         ← at-take2 .take2 .ensures,
       ),
     )
 
--- src/collect.rt:75:13
+-- src/collect.rt:76:13
 collect-collect-requires :
     (t : ℕ) → collect-lts.Need-collect-requires (said t) (collect-at t) collect.Post collect-Inv-loop collect-μ-loop
 collect-collect-requires t c κs = search needs
 
--- src/collect.rt:76:13
+-- src/collect.rt:77:13
 collect-sub-rest-2 :
     (t : ℕ) → collect-lts.Need-sub-rest-2 (said t) (collect-at t) collect.Post collect-Inv-loop collect-μ-loop
 collect-sub-rest-2 t c = search needs
@@ -294,10 +299,10 @@ collect-loop-again-2 t c =
     let at-if4 = at-collect .before .before .before .before in
     let at-if3 = at-if4 .before in
     let at-at = at-if3 .before .before .before .before .before in
-    let at-if2 = at-at .before .before in
+    let at-slot2 = at-at .before .before in
+    let at-if2 = at-slot2 .before in
     let at-is-leaf = at-if2 .before in
-    let at-slot = at-is-leaf .before in
-    let at-if1 = at-slot .before in
+    let at-if1 = at-is-leaf .before in
     let at-loop-test = at-if1 .before in
     let at-loop = at-loop-test .before in (
       search (needs, at-loop .loop .inv .0),
@@ -306,7 +311,7 @@ collect-loop-again-2 t c =
         ← at-loop .loop .inv .2,
         collectBut-inner _ (positive _ (at-loop-test .loop-test .taken)) _ _ _ _ _ _ (at-if1 .if1 .left)
             (sym (at-is-leaf .is-leaf .ensures) ∙ at-if2 .if2 .left),
-        ← at-slot .slot .ensures,
+        ← at-slot2 .slot2 .ensures,
         ← at-at .at .ensures,
         ne-eqb _ _ (at-if3 .if3 .left),
         lt-leb _ _ (at-if4 .if4 .left),
@@ -334,11 +339,12 @@ pub +collect-spec : {M : Type 1} → statement M
     (collect-sub-left t)
     (collect-same-length t)
     (collect-returns t)
-    (collect-slot-requires t)
     (collect-is-leaf-requires t)
+    (collect-slot-requires t)
     (collect-take-requires t)
     (collect-same-length-2 t)
     (collect-returns-2 t)
+    (collect-slot-requires-2 t)
     (collect-at-requires t)
     (collect-same-length-3 t)
     (collect-returns-3 t)
@@ -347,7 +353,7 @@ pub +collect-spec : {M : Type 1} → statement M
     (collect-is-leaf-requires-2 t)
     (collect-same-length-5 t)
     (collect-returns-5 t)
-    (collect-slot-requires-2 t)
+    (collect-slot-requires-3 t)
     (collect-take-requires-2 t)
     (collect-sub-rest t)
     (collect-loop-less t)

@@ -11,7 +11,7 @@ use Rattle.secondary_build.specs.Collect.{collectNode, collectRecord, co
 use Rattle.secondary_build.proofs.Steps.{collect-inner, collect-leaf, collect-left-leaf, collect-spent}
 use borrow.Author.Needs.{needs}
 use native.Mathlib.Omega.{arith}
-use borrow.Author.Tests.{eq-eqb, le-leb, ne-eqb}
+use borrow.Author.Tests.{le-leb}
 use Rattle.secondary_build.proofs.collect.collect.Reads as collect
 use Rattle.secondary_build.proofs.collect.collect.Kinds as collect-kinds
 use Rattle.secondary_build.proofs.collect.+collect.Lts-collect as collect-lts
@@ -47,10 +47,10 @@ collect-μ-loop t₀ base capacity taken most fuel at₀ got₀ left₀ t at got
 
 abbrev said : ℕ → collect-lts.Claims
 said t = (
-  slot-reads.Asked,
-  slot-reads.Learnt,
   is-leaf-reads.Asked,
   is-leaf-reads.Learnt,
+  slot-reads.Asked,
+  slot-reads.Learnt,
   put-run-reads.Asked,
   put-run-reads.Learnt,
   at-reads.Asked,
@@ -84,15 +84,15 @@ collect-returns t c = rw (
   le-leb _ _ (c .if1 .taken),
 )
 
--- src/collect.rt:34:13
-collect-slot-requires :
-    (t : ℕ) → collect-lts.Need-slot-requires (said t) (collect-at t) collect.Post collect-Inv-loop collect-μ-loop
-collect-slot-requires t c κs = search needs
-
--- src/collect.rt:35:12
+-- src/collect.rt:34:12
 collect-is-leaf-requires :
     (t : ℕ) → collect-lts.Need-is-leaf-requires (said t) (collect-at t) collect.Post collect-Inv-loop collect-μ-loop
 collect-is-leaf-requires t c κs = search needs
+
+-- src/collect.rt:35:17
+collect-slot-requires :
+    (t : ℕ) → collect-lts.Need-slot-requires (said t) (collect-at t) collect.Post collect-Inv-loop collect-μ-loop
+collect-slot-requires t c κs = search needs
 
 -- src/collect.rt:36:13
 collect-put-run-requires :
@@ -114,10 +114,10 @@ collect-returns-2 :
     (t : ℕ) → collect-lts.Need-returns-2 (said t) (collect-at t) collect.Post collect-Inv-loop collect-μ-loop
 collect-returns-2 t c =
     let at-put-run = c .before .before in
-    let at-if2 = at-put-run .before .before in
+    let at-slot = at-put-run .before .before in
+    let at-if2 = at-slot .before in
     let at-is-leaf = at-if2 .before in
-    let at-slot = at-is-leaf .before in
-    let at-if1 = at-slot .before in
+    let at-if1 = at-is-leaf .before in
     let at-loop-test = at-if1 .before in
     let at-loop = at-loop-test .before in
     rw (
@@ -129,50 +129,55 @@ collect-returns-2 t c =
     )
 
 -- src/collect.rt:39:13
+collect-slot-requires-2 :
+    (t : ℕ) → collect-lts.Need-slot-requires-2 (said t) (collect-at t) collect.Post collect-Inv-loop collect-μ-loop
+collect-slot-requires-2 t c κs = search needs
+
+-- src/collect.rt:40:13
 collect-at-requires :
     (t : ℕ) → collect-lts.Need-at-requires (said t) (collect-at t) collect.Post collect-Inv-loop collect-μ-loop
 collect-at-requires t c κs = search needs
 
--- src/collect.rt:44:12
+-- src/collect.rt:45:12
 collect-is-leaf-requires-2 :
     (t : ℕ) → collect-lts.Need-is-leaf-requires-2 (said t) (collect-at t) collect.Post collect-Inv-loop collect-μ-loop
 collect-is-leaf-requires-2 t c κs = search needs
 
--- src/collect.rt:46:17
+-- src/collect.rt:47:17
 collect-same-length-3 :
     (t : ℕ) → collect-lts.Need-same-length-3 (said t) (collect-at t) collect.Post collect-Inv-loop collect-μ-loop
 collect-same-length-3 t c = search needs
 
--- src/collect.rt:46:17
+-- src/collect.rt:47:17
 collect-returns-3 :
     (t : ℕ) → collect-lts.Need-returns-3 (said t) (collect-at t) collect.Post collect-Inv-loop collect-μ-loop
 collect-returns-3 t c =
     let at-r = c .before .before .before .before .before in
-    let at-if2 = at-r .before .before .before .before in
+    let at-slot2 = at-r .before .before .before .before in
+    let at-if2 = at-slot2 .before in
     let at-is-leaf = at-if2 .before in
-    let at-slot = at-is-leaf .before in
-    let at-if1 = at-slot .before in
+    let at-if1 = at-is-leaf .before in
     let at-loop-test = at-if1 .before in
     let at-loop = at-loop-test .before in
     rw (
       ← at-loop .loop .inv .2,
       collect-inner _ (positive _ (at-loop-test .loop-test .taken)) _ _ _ _ _ _ (at-if1 .if1 .left)
           (sym (at-is-leaf .is-leaf .ensures) ∙ at-if2 .if2 .left),
-      ← at-slot .slot .ensures,
+      ← at-slot2 .slot2 .ensures,
       collect-spent _ (c .if4 .taken),
     )
 
--- src/collect.rt:48:45
-collect-slot-requires-2 :
-    (t : ℕ) → collect-lts.Need-slot-requires-2 (said t) (collect-at t) collect.Post collect-Inv-loop collect-μ-loop
-collect-slot-requires-2 t c κs = search needs
+-- src/collect.rt:49:45
+collect-slot-requires-3 :
+    (t : ℕ) → collect-lts.Need-slot-requires-3 (said t) (collect-at t) collect.Post collect-Inv-loop collect-μ-loop
+collect-slot-requires-3 t c κs = search needs
 
--- src/collect.rt:48:13
+-- src/collect.rt:49:13
 collect-put-run-requires-2 :
     (t : ℕ) → collect-lts.Need-put-run-requires-2 (said t) (collect-at t) collect.Post collect-Inv-loop collect-μ-loop
 collect-put-run-requires-2 t c κs = search needs
 
--- src/collect.rt:49:13
+-- src/collect.rt:50:13
 collect-add-got :
     (t : ℕ) → collect-lts.Need-add-got (said t) (collect-at t) collect.Post collect-Inv-loop collect-μ-loop
 collect-add-got t c = search needs
@@ -187,15 +192,15 @@ collect-loop-again :
     (t : ℕ) → collect-lts.Need-loop-again (said t) (collect-at t) collect.Post collect-Inv-loop collect-μ-loop
 collect-loop-again t c =
     let at-put-run2 = c .before .before in
-    let at-slot2 = at-put-run2 .before in
-    let at-if4 = at-slot2 .before .before in
+    let at-slot3 = at-put-run2 .before in
+    let at-if4 = at-slot3 .before .before in
     let at-if3 = at-if4 .before in
     let at-is-leaf2 = at-if3 .before in
     let at-at = at-is-leaf2 .before .before .before .before .before in
-    let at-if2 = at-at .before .before in
+    let at-slot2 = at-at .before .before in
+    let at-if2 = at-slot2 .before in
     let at-is-leaf = at-if2 .before in
-    let at-slot = at-is-leaf .before in
-    let at-if1 = at-slot .before in
+    let at-if1 = at-is-leaf .before in
     let at-loop-test = at-if1 .before in
     let at-loop = at-loop-test .before in (
       search (needs, at-loop .loop .inv .0),
@@ -204,16 +209,16 @@ collect-loop-again t c =
         ← at-loop .loop .inv .2,
         collect-inner _ (positive _ (at-loop-test .loop-test .taken)) _ _ _ _ _ _ (at-if1 .if1 .left)
             (sym (at-is-leaf .is-leaf .ensures) ∙ at-if2 .if2 .left),
-        ← at-slot .slot .ensures,
+        ← at-slot2 .slot2 .ensures,
         ← at-at .at .ensures,
         collect-left-leaf _ (at-if4 .if4 .left) _ _ _ _ _ _ (at-if1 .if1 .left)
             (sym (at-is-leaf2 .is-leaf2 .ensures) ∙ at-if3 .if3 .taken),
-        ← at-slot2 .slot2 .ensures,
+        ← at-slot3 .slot3 .ensures,
         ← at-put-run2 .put-run2 .ensures,
       ),
     )
 
--- src/collect.rt:52:13
+-- src/collect.rt:53:13
 collect-collect-requires :
     (t : ℕ) → collect-lts.Need-collect-requires (said t) (collect-at t) collect.Post collect-Inv-loop collect-μ-loop
 collect-collect-requires t c κs = search needs
@@ -231,10 +236,10 @@ collect-loop-again-2 t c =
     let at-collect = c .before .before in
     let at-right-node = at-collect .before .before .before .before in
     let at-at = at-right-node .before .before .before .before in
-    let at-if2 = at-at .before .before in
+    let at-slot2 = at-at .before .before in
+    let at-if2 = at-slot2 .before in
     let at-is-leaf = at-if2 .before in
-    let at-slot = at-is-leaf .before in
-    let at-if1 = at-slot .before in
+    let at-if1 = at-is-leaf .before in
     let at-loop-test = at-if1 .before in
     let at-loop = at-loop-test .before in (
       search (needs, at-loop .loop .inv .0),
@@ -243,7 +248,7 @@ collect-loop-again-2 t c =
         ← at-loop .loop .inv .2,
         collect-inner _ (positive _ (at-loop-test .loop-test .taken)) _ _ _ _ _ _ (at-if1 .if1 .left)
             (sym (at-is-leaf .is-leaf .ensures) ∙ at-if2 .if2 .left),
-        ← at-slot .slot .ensures,
+        ← at-slot2 .slot2 .ensures,
         ← at-at .at .ensures,
         ← at-collect .collect .ensures,
       ),
@@ -269,17 +274,18 @@ pub +collect-spec : {M : Type 1} → statement M
     (collect-sub-left t)
     (collect-same-length t)
     (collect-returns t)
-    (collect-slot-requires t)
     (collect-is-leaf-requires t)
+    (collect-slot-requires t)
     (collect-put-run-requires t)
     (collect-add-result t)
     (collect-same-length-2 t)
     (collect-returns-2 t)
+    (collect-slot-requires-2 t)
     (collect-at-requires t)
     (collect-is-leaf-requires-2 t)
     (collect-same-length-3 t)
     (collect-returns-3 t)
-    (collect-slot-requires-2 t)
+    (collect-slot-requires-3 t)
     (collect-put-run-requires-2 t)
     (collect-add-got t)
     (collect-loop-less t)
