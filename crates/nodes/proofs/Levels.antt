@@ -17,7 +17,7 @@ use Rattle.nodes.specs.Holds.{Held}
 use Rattle.nodes.proofs.Frames.{Region, level-region, main-region}
 use Rattle.nodes.proofs.Held.{held-weight}
 
-W-words : (C : ℕ) → W C ≡ 64 + 32 * C + 16 * (D C * C)
+pub W-words : (C : ℕ) → W C ≡ 64 + 32 * C + 16 * (D C * C)
 unfolding W
 W-words C = omega (arith, mul-add C 32 (16 * D C), mul-left-comm C 16 (D C), mul-comm C (D C), mul-comm C 32)
 

@@ -8,10 +8,12 @@ use native.Mathlib.Omega.{arith}
 use native.Mathlib.Nat.{mul-le-mul-right}
 use lib.ListN.{length, getD}
 use Rattle.model.specs.Lists.{countIf}
+use Rattle.model.specs.Sizes.{D, W}
 use Rattle.model.specs.Tree.{marksOf}
 use Rattle.model.specs.Sheet.{Mark, Main, markOutside, same}
 use Rattle.model.proofs.Logic.{by-order}
 use Rattle.table.specs.Layout.{livePlace, slotPlace, mainPlace, rootPlace, usedPlace, runPlace, secondRunPlace, levelPlace, recordPlace}
+use Rattle.nodes.proofs.Levels.{W-words}
 use Rattle.twofold.specs.Sound.{capacityOf, Holding}
 use Rattle.twofold.specs.Gaps.{Unused, inHeader, inSlot, afterRuns, inLevel}
 use Rattle.twofold.proofs.Over.{TableFrame}
@@ -75,6 +77,13 @@ module _ {C i : ℕ} where
       (λ o. inr (omega (arith, mul-le-mul-right {m = e} {n = d} C (omega arith))))
       (λ is. inr (rw is (omega arith)))
       (λ o. inl (omega (arith, mul-le-mul-right {m = suc d} {n = e} C o)))
+
+  -- and it is one of the table's own words
+  pub unused-within : Unused C i → i < W C
+  unused-within (inHeader l h) = omega (arith, W-words C)
+  unused-within (inSlot s k is) = omega (arith, W-words C)
+  unused-within (afterRuns l h) = omega (arith, W-words C)
+  unused-within (inLevel d k l h) = omega (arith, W-words C, mul-le-mul-right {m = suc d} {n = D C} C k)
 
   -- so a change anywhere in the tree leaves it
   unused-frame : {xs ys : List ℕ} → TableFrame C xs ys → Unused C i → getD ys i 0 ≡ getD xs i 0

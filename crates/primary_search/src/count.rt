@@ -205,8 +205,8 @@ fn search(t: &[u32], level: u32, capacity: u32, b: Box, root: PrimaryArm) -> u64
     opened(t, level, capacity, b, n, tally::visit(0, 0))
 }
 
-// The marks of the table that the box of these sides holds, with the visits. More visits than limits::MOST: the words hold no tree. (Numbers in place of a
-// Box, and the words lent on: both reach the loop in registers.)
+// The marks of the table that the box of these sides holds, with the visits. Where they are more than a sound table's can be (sizes::Size), the words hold
+// no tree. (Numbers in place of a Box, and the words lent on: both reach the loop in registers.)
 pub fn count(t: &[u32], x1: u32, x2: u32, y1: u32, y2: u32) -> u64
     ensures { λ r. ⌜ r ≡ mainCount♯ (now (t .entry)) (box x1 x2 y1 y2) ⌝ }
 {

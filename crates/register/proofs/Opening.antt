@@ -13,7 +13,7 @@ use Rattle.model.specs.Sizes.{W, capacityOutside}
 use Rattle.model.specs.Sheet.{Main}
 use Rattle.model.specs.Refusals.{refused, openTable}
 use Rattle.model.specs.History.{openFor, Answer, refusal, updated}
-use Rattle.model.proofs.Logic.{by-cases}
+use Rattle.model.proofs.Logic.{by-cases, clash}
 use Rattle.table.specs.After.{After, after}
 use Rattle.twofold.specs.Sound.{capacityOf, Holding}
 use Rattle.primary.specs.Empty.{empty♯}
@@ -64,6 +64,7 @@ module _ (c : ℕ) (xs : List ℕ) where
             capacity = rw (inside, short) opened-capacity;
             holds = rw (inside, short) opened-own;
           };
+          spares = λ u. clash u refl;
         }
 
   refused-performs : (n : ℕ) → openTable c (length xs) ≡ refused n → (n ≡ 0 → ⊥) → Performs (openFor c (length xs)) (alone xs) (alone xs) (refusal n 0)

@@ -6,7 +6,7 @@ use mathlib.Core.Bool.{Bool, true, false}
 use mathlib.Core.List.{List, [], _∷_, _++_}
 use native.Mathlib.Omega.{arith}
 use lib.ListN.{length, getD, take, drop, length-append, length-drop, List·getD-append}
-use lib.Seq.{drop-at}
+use lib.Seq.{drop-at, getD-take}
 use borrow.Author.Tests.{eqb-true, eqb-false, eq-eqb, ne-eqb}
 use lib.Dec.{eqb}
 use Rattle.model.specs.Sizes.{W}
@@ -18,10 +18,12 @@ use Rattle.model.proofs.Logic.{by-cases}
 use Rattle.table.specs.Layout.{openPlace}
 use Rattle.table.specs.After.{After, after}
 use Rattle.twofold.specs.Sound.{capacityOf, liveOf, Holding, SoundTable}
+use Rattle.twofold.specs.Gaps.{Unused}
+use Rattle.primary.proofs.Gaps.{unused-within}
 use Rattle.checking.specs.Header.{notTable, ownWords}
 use Rattle.checking.proofs.Own.{own-table}
 use Rattle.register.specs.Performs.{Lent, lends, alone, LengthsOf, numberOf, early, own, opensTable, updates, Later, unsound, reach, Leaves, unchanged, written, closed}
-use Rattle.register.specs.Performs.{LeavesLists, Starts, stateOf, Follows, Performs}
+use Rattle.register.specs.Performs.{LeavesLists, Starts, stateOf, Follows, Spares, Performs}
 use Rattle.register.specs.Mirrors.{within, onAccepted, onTable, updateOwn}
 use Rattle.register.proofs.Own.{W-header, own-none, own-some, own-capacity, own-is, own-length, own-beyond, sound-table, held-capacity, held-own}
 
@@ -50,6 +52,7 @@ module _ (c : Call) (xs f s f′ s′ : List ℕ) (a : Answer) where
     follows = λ T h.
         let k = says T h in
         record { answers = k .0; capacity = sym (ap (λ s. s .capacity) (k .1)); holds = subst (λ s. Holding (own xs) (s .tree)) (sym (k .1)) h };
+    spares = λ u h i k. refl;
   }
 
 -- and one that is refused, with its number by an early row or a later one
@@ -76,6 +79,7 @@ pub data OwnUpdate (c : Call) (xs : List ℕ) : Answer → List ℕ → Type 0 w
   accepts : {ws : List ℕ} {live rebuilt : ℕ} → Later xs c (updated live rebuilt)
       → ((T : Main) → Holding (own xs) T → (updated live rebuilt ≡ answer c (stateOf (own xs) T)) × (capacityOf ws ≡ next c (stateOf (own xs) T) .capacity)
       × Holding ws (next c (stateOf (own xs) T) .tree))
+      → ((T : Main) → Holding (own xs) T → Spares (own xs) ws)
       → OwnUpdate c xs (updated live rebuilt) ws
 
 -- the state of a sound table goes by its own words
@@ -108,8 +112,9 @@ module _ (c : Call) (m : Mark) (xs : List ℕ) (lengths : LengthsOf c (alone xs)
       leavesLists = no-lists (refusal 4 0) xs (ws ++ beyond) [] [] refl;
       starts = λ z. starts (ws ++ beyond);
       follows = λ T h. absurd (wrong (record { tree = T; holding = h }));
+      spares = λ u h. absurd (wrong h);
     }
-    lift (accepts {ws} {live} {rebuilt} later goes) long = record {
+    lift (accepts {ws} {live} {rebuilt} later goes spared) long = record {
       lengths = lengths;
       refuses = λ z. absurd (z entered);
       later = λ z. later;
@@ -124,6 +129,11 @@ module _ (c : Call) (m : Mark) (xs : List ℕ) (lengths : LengthsOf c (alone xs)
             capacity = held-capacity (k .2) beyond ∙ k .1 ∙ ap (λ s. next c s .capacity) e;
             holds = rw (held-own (k .2) beyond) (subst (λ s. Holding ws (next c s .tree)) e (k .2));
           };
+      spares = λ u h i k.
+          let inside = unused-within k in
+          List·getD-append ws beyond 0 i (omega (arith, inside, own-long ws long))
+          ∙ spared (h .tree) (h .holding) i (subst (λ c. Unused c i) (sym (own-capacity xs)) k)
+          ∙ getD-take (W (capacityOf xs)) xs i 0 inside;
     }
 
   module _ (f : Mark → List ℕ → After Answer) (does : (ownWords xs ≡ 0 → ⊥) → markOutside m ≡ false → OwnUpdate c xs (f m (own xs) .out) (f m (own xs) .words))

@@ -27,6 +27,7 @@ use Rattle.primary.specs.Strike.{tableStrike♯}
 use Rattle.primary.proofs.Searching.{holding-agrees, holding-small, find-sound, find-missing}
 use Rattle.primary.proofs.Inserting.{insert-sound, insert-capacity}
 use Rattle.primary.proofs.Striking.{strike-sound, strike-capacity}
+use Rattle.primary.proofs.Gaps.{insert-unused, strike-unused}
 use Rattle.checking.specs.Header.{notTable, ownWords}
 use Rattle.checking.proofs.Own.{own-table}
 use Rattle.register.specs.Performs.{alone, early, own, Later, present, full, inserts, missing, strikes, stateOf, Performs}
@@ -107,7 +108,8 @@ module _ (m : Mark) (on : markOutside m ≡ false) (xs : List ℕ) (small : capa
       settle-insert =
           by-cases (eqb (p .out) damaged)
           (λ t. rw t (closes (λ k. insert-fine (k .tree) (k .holding) (eqb-true (p .out) damaged t)) (shut (p .words))))
-          (λ f. rw f (accepts (inserts (find-lacks zs m slots-small new) (omega (arith, fits, own-live xs, own-capacity xs, room))) insert-goes))
+          (λ f. rw f (accepts (inserts (find-lacks zs m slots-small new) (omega (arith, fits, own-live xs, own-capacity xs, room))) insert-goes
+          (λ T h. insert-unused zs T h m on (lacks T h) (spare T h))))
 
   insert-own : OwnUpdate (history.insert m) xs (insertOwn♯ m zs .out) (insertOwn♯ m zs .words)
   unfolding insertOwn♯ insertFound closed♯
@@ -162,7 +164,7 @@ module _ (m : Mark) (on : markOutside m ≡ false) (xs : List ℕ) (small : capa
     settle-strike =
         by-cases (eqb (q .out) damaged)
         (λ t. rw t (closes (λ k. strike-sound ws (k .tree) (k .holding) m (stands (k .tree) (k .holding)) .2 (eqb-true (q .out) damaged t)) (shut (q .words))))
-        (λ f. rw f (accepts (strikes (find-finds ws m few-slots fine old)) strike-goes))
+        (λ f. rw f (accepts (strikes (find-finds ws m few-slots fine old)) strike-goes (λ T h. strike-unused ws T h m (stands T h))))
 
   strike-own : OwnUpdate (history.strike m) xs (strikeOwn♯ m ws .out) (strikeOwn♯ m ws .words)
   unfolding strikeOwn♯ strikeFound closed♯

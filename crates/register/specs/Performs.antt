@@ -18,6 +18,7 @@ use Rattle.sizes.specs.Sizes.{visitsWithin}
 use Rattle.table.specs.Marks.{markWords}
 use Rattle.table.specs.Tally.{pack}
 use Rattle.twofold.specs.Sound.{capacityOf, liveOf, Holding, SoundTable}
+use Rattle.twofold.specs.Gaps.{Unused}
 use Rattle.primary_search.specs.Sought.{Finds, Lacks}
 use Rattle.primary_search.specs.Count.{mainCount♯}
 use Rattle.checking.specs.Header.{notTable}
@@ -146,6 +147,10 @@ pub record Follows (c : Call) (s : State) (ys : List ℕ) (a : Answer) : Type 0 
   pub capacity : capacityOf ys ≡ next c s .capacity
   pub holds : Holding (own ys) (next c s .tree)
 
+-- and an insert or strike writes only at places of the layout: a word of the table that docs/LAYOUT.md leaves unused keeps its value
+abbrev pub Spares : List ℕ → List ℕ → Type 0
+Spares xs ys = (i : ℕ) → Unused (capacityOf xs) i → getD ys i 0 ≡ getD xs i 0
+
 -- the call c, lent the words `before`, leaves the words `after` and answers a
 pub record Performs (c : Call) (before after : Lent) (a : Answer) : Type 0 where
   pub lengths : LengthsOf c before
@@ -155,3 +160,4 @@ pub record Performs (c : Call) (before after : Lent) (a : Answer) : Type 0 where
   pub leavesLists : LeavesLists a before after
   pub starts : a .number ≡ 0 → Starts c (after .table)
   pub follows : (T : Main) → Holding (own (before .table)) T → Follows c (stateOf (before .table) T) (after .table) a
+  pub spares : updates c ≡ true → SoundTable (own (before .table)) → Spares (before .table) (after .table)

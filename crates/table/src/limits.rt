@@ -3,8 +3,5 @@
 // More levels than any tree of 65,536 marks has: D(65,536) = 38, and an insertion may add one.
 pub const DEEPEST: u32 = 40;
 
-// The most visits of a count: (4 D + 1) (2 D + 1) at D = 38.
-pub const MOST: u32 = 11781;
-
 // What is given in place of a slot or of an update's figure where the words hold no tree.
 pub const DAMAGED: u32 = 4294967295;
