@@ -21,7 +21,7 @@ use Rattle.lines.specs.Responses.{firstLine, answerLine, markLines, figures, ma
 use Rattle.lines.specs.Writing.{Wrote}
 use Rattle.lines.proofs.Responses.{printed-first, printed-accepted}
 use Rattle.lines.proofs.Writing.{wrote-then, wrote-front}
-use Rattle.dialogue.specs.Responding.{callOf, lentTo, Answered, Does, performed, turnedAway}
+use Rattle.dialogue.specs.Responding.{callOf, lentTo, longestResponse, Answered, Does, performed, turnedAway}
 
 -- a response of one line
 module _ (c : Command) (call : Call) (before after : Lent) (a : Answer) (p : Performs call before after a) where
@@ -80,7 +80,7 @@ lent-fewer (list b) w = omega arith
 
 module _ (c : Command) (before after : Lent) {out out′ : List ℕ} {place : ℕ} where
   pub does-command : Answered c (callOf c (length (before .first)) (length (before .second))) (lentTo c before) (lentTo c after) out place out′
-      → 24 + 11 * length (before .first) ≤ length out → length out′ ≡ length out
+      → longestResponse (length (before .first)) ≤ length out → length out′ ≡ length out
       → length (after .first) ≡ length (before .first) → length (after .second) ≡ length (before .second)
       → (place ≤ length out′) × Does before after (take place out′) (some c)
   does-command a room same f s =

@@ -1,13 +1,15 @@
--- A dialogue: the words and bytes that the program holds, and what it does with each byte of the input and at its end. Assumes nothing.
-use Prim.Native.Nat.{ℕ}
+-- A dialogue: the words and bytes that the program holds, and what it does with each byte of the input, with a batch of them and at
+-- its end. Assumes nothing.
+use Prim.Native.Nat.{ℕ, _+_, _≤_, _<_}
 use mathlib.Core.Path.{_≡_}
 use mathlib.Core.Logic.{_≢_}
 use mathlib.Core.List.{List, [], _∷_, _++_}
+use lib.ListN.{length, take}
 use Rattle.table.specs.After as words
 use Rattle.register.specs.Performs.{Lent}
 use Rattle.lines.specs.Text.{lineFeed}
 use Rattle.lines.specs.Input.{Gathered, gather}
-use Rattle.dialogue.specs.Responding.{Responds}
+use Rattle.dialogue.specs.Responding.{longestResponse, Responds}
 
 -- the table and the two lists; the bytes of the line that stands open, and its length
 pub record Dialogue : Type 0 where
@@ -38,14 +40,19 @@ pub data FedAll : Dialogue → List ℕ → Dialogue → List ℕ → Type 0 whe
   none : {s : Dialogue} → FedAll s [] s []
   then : {b : ℕ} {bs : List ℕ} {s t u : Dialogue} {text more : List ℕ} → Fed b s t text → FedAll t bs u more → FedAll s (b ∷ bs) u (text ++ more)
 
--- the same, with whatever was printed; and for some bytes, whatever they were
+-- the same, whatever was printed
 pub record FedThrough (s : Dialogue) (input : List ℕ) (t : Dialogue) : Type 0 where
   pub text : List ℕ
   pub fed : FedAll s input t text
 
-pub record FedSome (s t : Dialogue) : Type 0 where
-  pub input : List ℕ
-  pub through : FedThrough s input t
+-- A batch: the first `used` bytes of a chunk are fed, and the first `bytes` of `out` are the text printed for them. It ends before the chunk does only where
+-- `out` has no room left for the longest response, and there is room for one at its beginning, so it takes a byte.
+pub record Batched (s : Dialogue) (chunk : List ℕ) (used : ℕ) (t : Dialogue) (out : List ℕ) (bytes : ℕ) : Type 0 where
+  pub taken : used ≤ length chunk
+  pub written : bytes ≤ length out
+  pub fed : FedAll s (take used chunk) t (take bytes out)
+  pub spent : used ≢ length chunk → length out < bytes + longestResponse (length (s .lent .first))
+  pub some : length chunk ≢ 0 → used ≢ 0
 
 -- a dialogue from its first byte to its end, and all that it prints
 pub record Runs (s : Dialogue) (input output : List ℕ) : Type 0 where

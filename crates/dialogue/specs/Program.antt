@@ -8,10 +8,10 @@ use Rattle.model.specs.History.{State, answer, next}
 use Rattle.twofold.specs.Sound.{capacityOf, Holding}
 use Rattle.register.specs.Performs.{own}
 use Rattle.lines.specs.Commands.{Command}
-use Rattle.lines.specs.Input.{linesOf, longestLine, TakenAs}
+use Rattle.lines.specs.Input.{longestLine, TakenAs}
 use Rattle.lines.specs.Responses.{printed, notALine}
 use Rattle.dialogue.specs.Responding.{callOf}
-use Rattle.dialogue.specs.Dialogue.{Dialogue, Runs}
+use Rattle.dialogue.specs.Dialogue.{Dialogue}
 
 -- for lines from a state of the history on: a command's answer by the plain list and the rules' tree; `R,11` for any other line. A list is lent two
 -- lists of n words.
@@ -21,6 +21,12 @@ pub data Prints (n : ℕ) : State → List (List ℕ) → List ℕ → Type 0 wh
       → Prints n (next (callOf c n n) s) lines more → Prints n s (line ∷ lines) (printed c (answer (callOf c n n) s) ++ more)
   other : {s : State} {line : List ℕ} {lines : List (List ℕ)} {more : List ℕ} → TakenAs line none
       → Prints n s lines more → Prints n s (line ∷ lines) (notALine ++ more)
+
+-- the responses of which the output is made, one for each line
+abbrev pub responses : {n : ℕ} {s : State} {lines : List (List ℕ)} {out : List ℕ} → Prints n s lines out → List (List ℕ)
+responses nothing = []
+responses {n} (command {s = s} {c = c} taken p) = printed c (answer (callOf c n n) s) ∷ responses p
+responses (other taken p) = notALine ∷ responses p
 
 -- "opens it for 60 marks" in "an array of 15,424 words"; "Its lists hold 180 words each."
 abbrev pub marks : ℕ
@@ -44,10 +50,3 @@ pub record Begun (s : Dialogue) : Type 0 where
   pub secondWords : length (s .lent .second) ≡ listWords
   pub lineBytes : longestLine ≤ length (s .line)
   pub noLine : s .len ≡ 0
-
--- what was printed for the bytes that were read, whatever they were, is what the model prints for them
-pub record PrintsByTheModel (s : Dialogue) : Type 0 where
-  pub input : List ℕ
-  pub output : List ℕ
-  pub runs : Runs s input output
-  pub prints : Prints listWords opened (linesOf input) output

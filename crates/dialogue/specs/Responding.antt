@@ -1,6 +1,6 @@
 -- What a line does: the call that it asks for, on the words that the program holds, and the text printed (document 01, "The planner and the line program").
 -- Assumes nothing.
-use Prim.Native.Nat.{ℕ, _+_, _*_, _≤_}
+use Prim.Native.Nat.{ℕ, _+_, _*_, _≤_, _<_}
 use mathlib.Core.Path.{_≡_}
 use mathlib.Core.List.{List}
 use mathlib.Core.Option.{Option, none, some}
@@ -44,9 +44,17 @@ pub record Responds (line : List ℕ) (before after : Lent) (text : List ℕ) : 
   pub taken : TakenAs line command
   pub does : Does before after text command
 
--- The answer of a call, and what of it was written into the bytes `out`: at most 24, and 33 for each mark that the first list has room for.
+-- the most bytes that a response has: 24, and 33 for each mark that a first list of so many words has room for
+abbrev pub longestResponse : ℕ → ℕ
+longestResponse words = 24 + 11 * words
+
+-- the bytes `out` have room for a response, and numbers of 32 bits count them
+abbrev pub Room : (first out : List ℕ) → Type 0
+Room first out = (longestResponse (length first) ≤ length out) × (length out < 4294967296)
+
+-- the answer of a call, and what of it was written into the bytes `out`
 pub record Answered (c : Command) (call : Call) (before after : Lent) (out : List ℕ) (place : ℕ) (out′ : List ℕ) : Type 0 where
   pub answer : Answer
   pub performs : Performs call before after answer
   pub wrote : Wrote out 0 (printed c answer) place out′
-  pub room : place ≤ 24 + 11 * length (before .first)
+  pub room : place ≤ longestResponse (length (before .first))

@@ -1,12 +1,12 @@
 // Commands performed on the register; each function gives how many bytes of its response it has written into `out`.
-ghost use Prim.Native.Nat.{_+_, _*_, _≤_, _<_};
+ghost use Prim.Native.Nat.{_≤_, _<_};
 ghost use lib.ListN.{length, take};
 ghost use Rattle.model.specs.History as history;
 ghost use Rattle.geometry.specs.Values.{markValue, boxValue};
 ghost use Rattle.register.specs.Performs.{alone, lends};
 ghost use Rattle.lines.specs.Commands.{insert as insertCommand, strike as strikeCommand, count as countCommand, list as listCommand};
 ghost use Rattle.lines.specs.Values.{lineOf};
-ghost use Rattle.dialogue.specs.Responding.{Answered, Does};
+ghost use Rattle.dialogue.specs.Responding.{longestResponse, Room, Answered, Does};
 use geometry::Box;
 use geometry::Mark;
 use lines::command::Line;
@@ -38,7 +38,7 @@ fn count(table: &[u32], b: Box, out: &mut [u8]) -> u32
 
 // The marks stand in the list that `which` names.
 fn list(table: &[u32], first: &mut [u32], second: &mut [u32], b: Box, out: &mut [u8]) -> u32
-    requires { ⌜ 24 + 11 * length (now first) < 4294967296 ⌝ }
+    requires { ⌜ longestResponse (length (now first)) < 4294967296 ⌝ }
     ensures { λ r. ⌜ Answered (listCommand (boxValue b)) (history.list (boxValue b) (length (now (first .entry))) (length (now (second .entry))))
         (lends (now (table .entry)) (now (first .entry)) (now (second .entry)))
         (lends (now (table .entry)) (now (first .exit)) (now (second .exit)))
@@ -63,7 +63,7 @@ pub fn perform(
     line: Line,
     out: &mut [u8],
 ) -> u32
-    requires { ⌜ (24 + 11 * length (now first) ≤ length (now out)) × (length (now out) < 4294967296) ⌝ }
+    requires { ⌜ Room (now first) (now out) ⌝ }
     ensures { λ r. ⌜ (r ≤ length (now (out .exit)))
         × Does (lends (now (table .entry)) (now (first .entry)) (now (second .entry)))
         (lends (now (table .exit)) (now (first .exit)) (now (second .exit))) (take r (now (out .exit))) (lineOf line) ⌝ }

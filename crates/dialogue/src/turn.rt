@@ -1,7 +1,8 @@
 // A dialogue byte by byte: the open line is gathered, and performed when a line feed or the end of the input ends it.
-ghost use Prim.Native.Nat.{_+_, _*_, _≤_, _<_};
+ghost use Prim.Native.Nat.{_≤_};
 ghost use lib.ListN.{length, take};
 ghost use Rattle.register.specs.Performs.{lends};
+ghost use Rattle.dialogue.specs.Responding.{Room};
 ghost use Rattle.dialogue.specs.Dialogue.{dialogue, RespondsOpen, Fed, Ended};
 use crate::perform;
 use lines::input;
@@ -21,7 +22,7 @@ fn respond(
     len: u32,
     out: &mut [u8],
 ) -> u32
-    requires { ⌜ (24 + 11 * length (now first) ≤ length (now out)) × (length (now out) < 4294967296) ⌝ }
+    requires { ⌜ Room (now first) (now out) ⌝ }
     ensures { λ r. ⌜ (r ≤ length (now (out .exit)))
         × RespondsOpen (dialogue (lends (now (table .entry)) (now (first .entry)) (now (second .entry))) (now (line .entry)) len)
         (lends (now (table .exit)) (now (first .exit)) (now (second .exit))) (take r (now (out .exit))) ⌝ }
@@ -39,7 +40,7 @@ pub fn feed(
     byte: u8,
     out: &mut [u8],
 ) -> Turn
-    requires { ⌜ (24 + 11 * length (now first) ≤ length (now out)) × (length (now out) < 4294967296) ⌝ }
+    requires { ⌜ Room (now first) (now out) ⌝ }
     ensures { λ r. ⌜ (r .bytes ≤ length (now (out .exit)))
         × Fed byte (dialogue (lends (now (table .entry)) (now (first .entry)) (now (second .entry))) (now (line .entry)) len)
         (dialogue (lends (now (table .exit)) (now (first .exit)) (now (second .exit))) (now (line .exit)) (r .len)) (take (r .bytes) (now (out .exit))) ⌝ }
@@ -64,7 +65,7 @@ pub fn finish(
     len: u32,
     out: &mut [u8],
 ) -> u32
-    requires { ⌜ (24 + 11 * length (now first) ≤ length (now out)) × (length (now out) < 4294967296) ⌝ }
+    requires { ⌜ Room (now first) (now out) ⌝ }
     ensures { λ r. ⌜ (r ≤ length (now (out .exit)))
         × Ended (dialogue (lends (now (table .entry)) (now (first .entry)) (now (second .entry))) (now (line .entry)) len)
         (lends (now (table .exit)) (now (first .exit)) (now (second .exit))) (take r (now (out .exit))) ⌝ }

@@ -37,9 +37,18 @@ slice-aggregate-run-5 c = search needs
 
 run-requires : tie.Need-run-requires
 run-requires c κs =
-    let call = c .before .before .before .before .before .before .«open» in
-    let table = open-begins (replicate {A = ℕ} tableWords 0) (call .last .0) (openAnswer (call .result)) (length-replicate {A = ℕ} tableWords 0) (call .ensures) in (
-      record { capacity = table .0; empty = table .1; firstWords = refl; secondWords = refl; lineBytes = omega arith; noLine = refl },
+    let at-open = c .before .before .before .before .before .before in
+    let call = at-open .«open» in
+    let table = open-begins (replicate {A = ℕ} tableWords 0) (call .last .0) (openAnswer (call .result))
+    (length-replicate {A = ℕ} tableWords 0) (call .ensures) in (
+      record {
+        capacity = table .0;
+        empty = table .1;
+        firstWords = refl;
+        secondWords = refl;
+        lineBytes = omega arith;
+        noLine = refl;
+      },
       (omega arith, omega arith),
     )
 

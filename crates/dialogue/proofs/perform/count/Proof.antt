@@ -28,10 +28,15 @@ same-length c = search needs
 
 returns : tie.Need-returns
 returns c =
-    let b = boxValue (c .before .before .before .before .before .before .before .before .args .b) in
-    let f = c .before .before .before .before .figures in
-    answered-first (count b) (history.count b) _ _ (countGiven (f .result .number) (f .result .marks) (f .result .visits)) (rw (← f .ensures) at (c .before .before .before .before .before .count .ensures))
-    refl (c .before .before .put-first .ensures)
+    let at-put-first = c .before .before in
+    let at-figures = at-put-first .before .before in
+    let at-count = at-figures .before in
+    let at-start = at-count .before .before .before in
+    let b = boxValue (at-start .args .b) in
+    let f = at-figures .figures in
+    answered-first (count b) (history.count b) _ _
+    (countGiven (f .result .number) (f .result .marks) (f .result .visits))
+    (rw (← f .ensures) at (at-count .count .ensures)) refl (at-put-first .put-first .ensures)
 
 pub count-spec : {M : Type 1} → statement M
 count-spec =

@@ -31,10 +31,15 @@ same-length-2 c = search needs
 
 returns : tie.Need-returns
 returns c =
-    let m = markValue (c .before .before .before .before .before .before .before .before .before .before .before .args .m) in
-    let f = c .before .before .before .before .figures in
-    answered-first (insert m) (history.insert m) _ _ (updateGiven (f .result .number) (f .result .live) (f .result .rebuilt)) (rw (← f .ensures) at (c .before .before .before .before .before .before .before .insert .ensures))
-    refl (c .before .before .put-first .ensures)
+    let at-put-first = c .before .before in
+    let at-figures = at-put-first .before .before in
+    let at-insert = at-figures .before .before .before in
+    let at-start = at-insert .before .before .before .before in
+    let m = markValue (at-start .args .m) in
+    let f = at-figures .figures in
+    answered-first (insert m) (history.insert m) _ _
+    (updateGiven (f .result .number) (f .result .live) (f .result .rebuilt))
+    (rw (← f .ensures) at (at-insert .insert .ensures)) refl (at-put-first .put-first .ensures)
 
 pub insert-spec : {M : Type 1} → statement M
 insert-spec =

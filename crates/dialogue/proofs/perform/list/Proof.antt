@@ -41,23 +41,38 @@ same-length-3 c = search needs
 
 returns : tie.Need-returns
 returns c =
-    let b = boxValue (c .before .before .before .before .before .before .before .before .before .before .before .before .before .before .before .before .before .before .args .b) in
-    let r = c .before .before .before .before .before .before .figures in
+    let at-put-first = c .before .before .before .before in
+    let at-figures = at-put-first .before .before in
+    let at-list = at-figures .before .before .before .before .before in
+    let at-slice-known2 = at-list .before .before .before .before in
+    let at-start = at-slice-known2 .before .before .before in
+    let b = boxValue (at-start .args .b) in
+    let r = at-figures .figures in
     let f = given (r .result .number) (r .result .marks) (r .result .visits) (r .result .which) in
-    answered-first (list b) _ _ _ (listGiven f _ _) (rw (← r .ensures) at (c .before .before .before .before .before .before .before .before .before .before .before .list .ensures)) (rw (eq-eqb (f .which) 0 (c .if1 .taken)))
-    (c .before .before .before .before .put-first .ensures)
+    answered-first (list b) _ _ _ (listGiven f _ _) (rw (← r .ensures) at (at-list .list .ensures))
+    (rw (eq-eqb (f .which) 0 (c .if1 .taken))) (at-put-first .put-first .ensures)
 
 put-marks-requires : tie.Need-put-marks-requires
 put-marks-requires c κs =
-    let start = c .before .before .before .before .before .before .before .before .before .before .before .before .before .before .before .before .before .before .before .before .before .before in
-    let a = c .before .before .before .before .before .before .before .before .before .before .before .before .before .before .before .before .before .before .before .before .before .before .args in
-    let left = c .before .before .before .before .before .before .before .before .before .before .before .before .before .before .before .list .last in
+    let at-if1 = c .before .before .before .before in
+    let at-put-first = at-if1 .before .before .before .before in
+    let at-figures = at-put-first .before .before in
+    let at-list = at-figures .before .before .before .before .before in
+    let at-slice-known2 = at-list .before .before .before .before in
+    let start = at-slice-known2 .before .before .before in
+    let a = start .args in
+    let left = at-list .list .last in
     let before = lends (a .table .now) (a .first .now) (a .second .now) in
     let after = lends (a .table .now) (left .1 .1 .1 .1 .1 .0) (left .1 .1 .1 .1 .1 .1 .0) in
-    let r = c .before .before .before .before .before .before .before .before .before .before .figures in
+    let r = at-figures .figures in
     let f = given (r .result .number) (r .result .marks) (r .result .visits) (r .result .which) in
-    let p = rw (← r .ensures) at (c .before .before .before .before .before .before .before .before .before .before .before .before .before .before .before .list .ensures) in
-    omega (arith, start .pre, c .before .before .before .before .before .before .before .before .put-first .ensures .0, list-room (boxValue (start .args .b)) before after f p (c .before .before .before .before .if1 .left))
+    let p = rw (← r .ensures) at (at-list .list .ensures) in
+    omega (
+      arith,
+      start .pre,
+      at-put-first .put-first .ensures .0,
+      list-room (boxValue (start .args .b)) before after f p (at-if1 .if1 .left),
+    )
 
 same-length-4 : tie.Need-same-length-4
 same-length-4 c = search needs
@@ -70,27 +85,46 @@ same-length-6 c = search needs
 
 returns-2 : tie.Need-returns-2
 returns-2 c =
-    let b = boxValue (c .before .before .before .before .before .before .before .before .before .before .before .before .before .before .before .before .before .before .before .before .before .before .before .before .before .args .b) in
-    let a = c .before .before .before .before .before .before .before .before .before .before .before .before .before .before .before .before .before .before .before .before .before .before .before .before .before .args in
-    let left = c .before .before .before .before .before .before .before .before .before .before .before .before .before .before .before .before .before .before .list .last in
+    let at-put-marks = c .before .before in
+    let at-if2 = at-put-marks .before .before .before in
+    let at-if1 = at-if2 .before .before in
+    let at-put-first = at-if1 .before .before .before .before in
+    let at-figures = at-put-first .before .before in
+    let at-list = at-figures .before .before .before .before .before in
+    let at-slice-known2 = at-list .before .before .before .before in
+    let at-start = at-slice-known2 .before .before .before in
+    let b = boxValue (at-start .args .b) in
+    let a = at-start .args in
+    let left = at-list .list .last in
     let before = lends (a .table .now) (a .first .now) (a .second .now) in
     let after = lends (a .table .now) (left .1 .1 .1 .1 .1 .0) (left .1 .1 .1 .1 .1 .1 .0) in
-    let r = c .before .before .before .before .before .before .before .before .before .before .before .before .before .figures in
+    let r = at-figures .figures in
     let f = given (r .result .number) (r .result .marks) (r .result .visits) (r .result .which) in
-    let p = rw (← r .ensures) at (c .before .before .before .before .before .before .before .before .before .before .before .before .before .before .before .before .before .before .list .ensures) in
-    answered-list b before after f p (c .before .before .before .before .before .before .before .if1 .left) (c .before .before .before .before .before .before .before .before .before .before .before .put-first .ensures) (rw (eq-eqb (f .which) 1 (c .before .before .before .before .before .if2 .taken)) (c .before .before .put-marks .ensures))
+    let p = rw (← r .ensures) at (at-list .list .ensures) in
+    answered-list b before after f p (at-if1 .if1 .left) (at-put-first .put-first .ensures)
+    (rw (eq-eqb (f .which) 1 (at-if2 .if2 .taken)) (at-put-marks .put-marks .ensures))
 
 put-marks-requires-2 : tie.Need-put-marks-requires-2
 put-marks-requires-2 c κs =
-    let start = c .before .before .before .before .before .before .before .before .before .before .before .before .before .before .before .before .before .before .before .before .before .before in
-    let a = c .before .before .before .before .before .before .before .before .before .before .before .before .before .before .before .before .before .before .before .before .before .before .args in
-    let left = c .before .before .before .before .before .before .before .before .before .before .before .before .before .before .before .list .last in
+    let at-if1 = c .before .before .before .before in
+    let at-put-first = at-if1 .before .before .before .before in
+    let at-figures = at-put-first .before .before in
+    let at-list = at-figures .before .before .before .before .before in
+    let at-slice-known2 = at-list .before .before .before .before in
+    let start = at-slice-known2 .before .before .before in
+    let a = start .args in
+    let left = at-list .list .last in
     let before = lends (a .table .now) (a .first .now) (a .second .now) in
     let after = lends (a .table .now) (left .1 .1 .1 .1 .1 .0) (left .1 .1 .1 .1 .1 .1 .0) in
-    let r = c .before .before .before .before .before .before .before .before .before .before .figures in
+    let r = at-figures .figures in
     let f = given (r .result .number) (r .result .marks) (r .result .visits) (r .result .which) in
-    let p = rw (← r .ensures) at (c .before .before .before .before .before .before .before .before .before .before .before .before .before .before .before .list .ensures) in
-    omega (arith, start .pre, c .before .before .before .before .before .before .before .before .put-first .ensures .0, list-room (boxValue (start .args .b)) before after f p (c .before .before .before .before .if1 .left))
+    let p = rw (← r .ensures) at (at-list .list .ensures) in
+    omega (
+      arith,
+      start .pre,
+      at-put-first .put-first .ensures .0,
+      list-room (boxValue (start .args .b)) before after f p (at-if1 .if1 .left),
+    )
 
 same-length-7 : tie.Need-same-length-7
 same-length-7 c = search needs
@@ -103,15 +137,24 @@ same-length-9 c = search needs
 
 returns-3 : tie.Need-returns-3
 returns-3 c =
-    let b = boxValue (c .before .before .before .before .before .before .before .before .before .before .before .before .before .before .before .before .before .before .before .before .before .before .before .before .before .args .b) in
-    let a = c .before .before .before .before .before .before .before .before .before .before .before .before .before .before .before .before .before .before .before .before .before .before .before .before .before .args in
-    let left = c .before .before .before .before .before .before .before .before .before .before .before .before .before .before .before .before .before .before .list .last in
+    let at-put-marks2 = c .before .before in
+    let at-if2 = at-put-marks2 .before .before .before in
+    let at-if1 = at-if2 .before .before in
+    let at-put-first = at-if1 .before .before .before .before in
+    let at-figures = at-put-first .before .before in
+    let at-list = at-figures .before .before .before .before .before in
+    let at-slice-known2 = at-list .before .before .before .before in
+    let at-start = at-slice-known2 .before .before .before in
+    let b = boxValue (at-start .args .b) in
+    let a = at-start .args in
+    let left = at-list .list .last in
     let before = lends (a .table .now) (a .first .now) (a .second .now) in
     let after = lends (a .table .now) (left .1 .1 .1 .1 .1 .0) (left .1 .1 .1 .1 .1 .1 .0) in
-    let r = c .before .before .before .before .before .before .before .before .before .before .before .before .before .figures in
+    let r = at-figures .figures in
     let f = given (r .result .number) (r .result .marks) (r .result .visits) (r .result .which) in
-    let p = rw (← r .ensures) at (c .before .before .before .before .before .before .before .before .before .before .before .before .before .before .before .before .before .before .list .ensures) in
-    answered-list b before after f p (c .before .before .before .before .before .before .before .if1 .left) (c .before .before .before .before .before .before .before .before .before .before .before .put-first .ensures) (rw (ne-eqb (f .which) 1 (c .before .before .before .before .before .if2 .left)) (c .before .before .put-marks2 .ensures))
+    let p = rw (← r .ensures) at (at-list .list .ensures) in
+    answered-list b before after f p (at-if1 .if1 .left) (at-put-first .put-first .ensures)
+    (rw (ne-eqb (f .which) 1 (at-if2 .if2 .left)) (at-put-marks2 .put-marks2 .ensures))
 
 pub list-spec : {M : Type 1} → statement M
 list-spec =

@@ -53,8 +53,13 @@ same-length-2 c = search needs
 
 returns : tie.Need-returns
 returns c =
-    let told = c .before .before .before .before .before .before .before .before .line .given in
-    rw (told .1) (does-command (insert (markValue (told .0 .0))) _ _ (c .before .before .before .before .insert .ensures) (c .before .before .before .before .before .before .before .before .before .before .before .before .before .before .pre .0) (search needs) (search needs) (search needs))
+    let at-insert = c .before .before .before .before in
+    let at-line = at-insert .before .before .before .before in
+    let at-start = at-line .before .before .before .before .before .before in
+    let told = at-line .line .given in
+    rw (told .1)
+    (does-command (insert (markValue (told .0 .0))) _ _ (at-insert .insert .ensures) (at-start .pre .0) (search needs)
+    (search needs) (search needs))
 
 same-length-3 : tie.Need-same-length-3
 same-length-3 c = search needs
@@ -64,8 +69,13 @@ same-length-4 c = search needs
 
 returns-2 : tie.Need-returns-2
 returns-2 c =
-    let told = c .before .before .before .before .before .before .before .before .line2 .given in
-    rw (told .1) (does-command (strike (markValue (told .0 .0))) _ _ (c .before .before .before .before .strike .ensures) (c .before .before .before .before .before .before .before .before .before .before .before .before .before .before .pre .0) (search needs) (search needs) (search needs))
+    let at-strike = c .before .before .before .before in
+    let at-line2 = at-strike .before .before .before .before in
+    let at-start = at-line2 .before .before .before .before .before .before in
+    let told = at-line2 .line2 .given in
+    rw (told .1)
+    (does-command (strike (markValue (told .0 .0))) _ _ (at-strike .strike .ensures) (at-start .pre .0) (search needs)
+    (search needs) (search needs))
 
 same-length-5 : tie.Need-same-length-5
 same-length-5 c = search needs
@@ -75,8 +85,13 @@ same-length-6 c = search needs
 
 returns-3 : tie.Need-returns-3
 returns-3 c =
-    let told = c .before .before .before .before .before .before .line3 .given in
-    rw (told .1) (does-command (count (boxValue (told .0 .0))) _ _ (c .before .before .count .ensures) (c .before .before .before .before .before .before .before .before .before .before .before .before .pre .0) (search needs) (search needs) (search needs))
+    let at-count = c .before .before in
+    let at-line3 = at-count .before .before .before .before in
+    let at-start = at-line3 .before .before .before .before .before .before in
+    let told = at-line3 .line3 .given in
+    rw (told .1)
+    (does-command (count (boxValue (told .0 .0))) _ _ (at-count .count .ensures) (at-start .pre .0) (search needs)
+    (search needs) (search needs))
 
 same-length-7 : tie.Need-same-length-7
 same-length-7 c = search needs
@@ -92,20 +107,28 @@ same-length-10 c = search needs
 
 returns-4 : tie.Need-returns-4
 returns-4 c =
-    let told = c .before .before .before .before .before .before .before .before .before .before .before .before .line4 .given in
-    let a = c .before .before .before .before .before .before .before .before .before .before .before .before .before .before .before .before .before .before .args in
-    let done = c .before .before .before .before .before .before .list in
+    let at-list = c .before .before .before .before .before .before in
+    let at-line4 = at-list .before .before .before .before .before .before in
+    let at-start = at-line4 .before .before .before .before .before .before in
+    let told = at-line4 .line4 .given in
+    let a = at-start .args in
+    let done = at-list .list in
     let before = lends (a .table .now) (a .first .now) (a .second .now) in
     let after = lends (a .table .now) (done .last .1 .0) (done .last .1 .1 .0) in
-    rw (told .1) (does-command (list (boxValue (told .0 .0))) before after (done .ensures) (c .before .before .before .before .before .before .before .before .before .before .before .before .before .before .before .before .before .before .pre .0) (search needs) (search needs) (search needs))
+    rw (told .1)
+    (does-command (list (boxValue (told .0 .0))) before after (done .ensures) (at-start .pre .0) (search needs)
+    (search needs) (search needs))
 
 same-length-11 : tie.Need-same-length-11
 same-length-11 c = search needs
 
 returns-5 : tie.Need-returns-5
 returns-5 c =
-    let start = c .before .before .before .before .before .before .before .before .before .before in
-    rw (c .before .before .before .before .enum-told .given .1) (does-none _ (c .before .before .put-refusal .ensures) (omega (arith, start .pre .0)) (search needs))
+    let at-put-refusal = c .before .before in
+    let at-enum-told = at-put-refusal .before .before in
+    let start = at-enum-told .before .before .before .before .before .before in
+    rw (at-enum-told .enum-told .given .1)
+    (does-none _ (at-put-refusal .put-refusal .ensures) (omega (arith, start .pre .0)) (search needs))
 
 pub perform-spec : {M : Type 1} → statement M
 perform-spec =

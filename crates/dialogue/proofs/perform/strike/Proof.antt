@@ -31,10 +31,15 @@ same-length-2 c = search needs
 
 returns : tie.Need-returns
 returns c =
-    let m = markValue (c .before .before .before .before .before .before .before .before .before .before .before .args .m) in
-    let f = c .before .before .before .before .figures in
-    answered-first (strike m) (history.strike m) _ _ (updateGiven (f .result .number) (f .result .live) (f .result .rebuilt)) (rw (← f .ensures) at (c .before .before .before .before .before .before .before .strike .ensures))
-    refl (c .before .before .put-first .ensures)
+    let at-put-first = c .before .before in
+    let at-figures = at-put-first .before .before in
+    let at-strike = at-figures .before .before .before in
+    let at-start = at-strike .before .before .before .before in
+    let m = markValue (at-start .args .m) in
+    let f = at-figures .figures in
+    answered-first (strike m) (history.strike m) _ _
+    (updateGiven (f .result .number) (f .result .live) (f .result .rebuilt))
+    (rw (← f .ensures) at (at-strike .strike .ensures)) refl (at-put-first .put-first .ensures)
 
 pub strike-spec : {M : Type 1} → statement M
 strike-spec =

@@ -29,7 +29,11 @@ same-length-5 : tie.Need-same-length-5
 same-length-5 c = search needs
 
 returns : tie.Need-returns
-returns c = (c .before .before .before .before .before .before .before .before .respond .ensures .0, ends (c .before .before .before .before .before .before .before .before .before .before .before .before .before .before .if1 .taken) (c .before .before .before .before .before .before .before .before .respond .ensures .1) refl refl)
+returns c =
+    let at-slice-known7 = c .before .before .before .before in
+    let at-respond = at-slice-known7 .before .before .before .before in
+    let at-if1 = at-respond .before .before .before .before .before .before in
+    (at-respond .respond .ensures .0, ends (at-if1 .if1 .taken) (at-respond .respond .ensures .1) refl refl)
 
 take-requires : tie.Need-take-requires
 take-requires c κs = search needs
@@ -38,7 +42,10 @@ same-length-6 : tie.Need-same-length-6
 same-length-6 c = search needs
 
 returns-2 : tie.Need-returns-2
-returns-2 c = (omega arith, goesOn (c .before .before .before .before .if1 .left) refl (c .before .before .take .ensures) refl)
+returns-2 c =
+    let at-take = c .before .before in
+    let at-if1 = at-take .before .before in
+    (omega arith, goesOn (at-if1 .if1 .left) refl (at-take .take .ensures) refl)
 
 pub feed-spec : {M : Type 1} → statement M
 feed-spec =

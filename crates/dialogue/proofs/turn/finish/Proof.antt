@@ -28,7 +28,11 @@ same-length-4 : tie.Need-same-length-4
 same-length-4 c = search needs
 
 returns-2 : tie.Need-returns-2
-returns-2 c = (c .before .before .before .before .before .before .before .before .respond .ensures .0, rest (c .before .before .before .before .before .before .before .before .before .before .before .before .before .if1 .left) (c .before .before .before .before .before .before .before .before .respond .ensures .1))
+returns-2 c =
+    let at-slice-known6 = c .before .before .before .before in
+    let at-respond = at-slice-known6 .before .before .before .before in
+    let at-if1 = at-respond .before .before .before .before .before in
+    (at-respond .respond .ensures .0, rest (at-if1 .if1 .left) (at-respond .respond .ensures .1))
 
 pub finish-spec : {M : Type 1} → statement M
 finish-spec =

@@ -28,8 +28,17 @@ same-length-4 c = search needs
 
 returns : tie.Need-returns
 returns c =
-    let done = c .before .before .before .before .before .before .before .before .perform .ensures in
-    (done .0, λ l g. record { command = lineOf (c .before .before .before .before .before .before .before .before .before .before .command .result); taken = c .before .before .before .before .before .before .before .before .before .before .command .ensures l g; does = done .1 })
+    let at-slice-known6 = c .before .before .before .before in
+    let at-perform = at-slice-known6 .before .before .before .before in
+    let at-command = at-perform .before .before in
+    let done = at-perform .perform .ensures in (
+      done .0,
+      λ l g. record {
+        command = lineOf (at-command .command .result);
+        taken = at-command .command .ensures l g;
+        does = done .1;
+      },
+    )
 
 pub respond-spec : {M : Type 1} → statement M
 respond-spec =
