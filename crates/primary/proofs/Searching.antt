@@ -63,7 +63,8 @@ module _ (xs : List ℕ) where
   agrees-of (some t) r =
       subst (Agrees (marksMain (slotMark xs) (some t))) (sym (stands-marks (slotMark xs) (some t))) (rules-agrees (slotMark xs) t r)
 
-  find-of : (o : Option SlotMain) → HoldsTree xs o → TreeByRules xs o → capacityOf xs ≤ 65536 → 64 + 16 * capacityOf xs ≤ length xs → (s : ℕ) → 0 < timesIn s (marksOf o)
+  find-of : (o : Option SlotMain) → HoldsTree xs o → TreeByRules xs o → capacityOf xs ≤ 65536 → 64 + 16 * capacityOf xs ≤ length xs → (s : ℕ)
+      → 0 < timesIn s (marksOf o)
       → (find♯ xs (slotMark xs s) ≡ s) × (s < capacityOf xs) × (timesIn s (marksOf o) ≡ 1)
   find-of none k r small room s n = absurd (omega arith)
   find-of (some t) k r small room s n =

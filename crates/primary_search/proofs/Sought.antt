@@ -1,7 +1,7 @@
 -- On any words whatever, the mirror of the finding gives a slot only where the search by the words finds the mark there, and `absent` only where that search
 -- comes to its end without it. Assumes nothing.
 use Prim.Native.Nat.{ℕ, zero, suc, _+_, _*_, _/_, _%_, _<_}
-use mathlib.Core.Path.{_≡_, refl, sym, subst, _∙_}
+use mathlib.Core.Path.{_≡_, refl, ap, subst}
 use mathlib.Core.Logic.{_≢_}
 use mathlib.Core.Bool.{true, false}
 use mathlib.Core.List.{List}
@@ -10,7 +10,7 @@ use lib.Dec.{eqb, leb}
 use lib.ListN.{length}
 use borrow.Author.Tests.{eqb-true, eqb-false, leb-false}
 use Rattle.model.specs.Sheet.{Mark, same, belowX}
-use Rattle.model.proofs.Logic.{by-cases}
+use Rattle.model.proofs.Logic.{by-cases, clash}
 use Rattle.table.specs.Layout.{mainPlace, rootPlace, deepest, damaged}
 use Rattle.table.specs.Marks.{slotMark}
 use Rattle.nodes.specs.Arms.{armAt, recordAt}
@@ -56,6 +56,33 @@ module _ (xs : List ℕ) (m : Mark) where
       by-cases (belowX m (slotMark xs s))
       (λ t. rw (u, v, t) (from-child (λ slot way. subst (λ k. Leads xs m k slot) e (left below t way)) (came f (recordAt xs (mainPlace s) .left .node))))
       (λ w. rw (u, v, w) (from-child (λ slot way. subst (λ k. Leads xs m k slot) e (right below w way)) (came f (recordAt xs (mainPlace s) .right .node))))))
+
+  -- there is one way, so what the search comes to is one thing
+  leads-once : {n n′ s s′ : ℕ} → n ≡ n′ → Leads xs m n s → Leads xs m n′ s′ → s ≡ s′
+  leads-once e (leaf a) (leaf b) = omega arith
+  leads-once e (leaf a) (left b t way) = absurd (omega arith)
+  leads-once e (leaf a) (right b f way) = absurd (omega arith)
+  leads-once e (left a t way) (leaf b) = absurd (omega arith)
+  leads-once e (right a f way) (leaf b) = absurd (omega arith)
+  leads-once e (left {s = p} a t way) (left {s = q} b u way′) =
+      let same-name : p ≡ q = omega arith in
+      leads-once (ap (λ p. recordAt xs (mainPlace p) .left .node) same-name) way way′
+  leads-once e (right {s = p} a t way) (right {s = q} b u way′) =
+      let same-name : p ≡ q = omega arith in
+      leads-once (ap (λ p. recordAt xs (mainPlace p) .right .node) same-name) way way′
+  leads-once e (left {s = p} a t way) (right {s = q} b f way′) =
+      let same-name : p ≡ q = omega arith in
+      clash (subst (λ p. belowX m (slotMark xs p) ≡ true) same-name t) f
+  leads-once e (right {s = p} a f way) (left {s = q} b t way′) =
+      let same-name : p ≡ q = omega arith in
+      clash t (subst (λ p. belowX m (slotMark xs p) ≡ false) same-name f)
+
+  pub finds-once : {s s′ : ℕ} → Finds xs m s → Finds xs m s′ → s ≡ s′
+  finds-once a b = leads-once refl (a .leads) (b .leads)
+
+  pub finds-not-lacks : {s : ℕ} → Finds xs m s → Lacks xs m → ⊥
+  finds-not-lacks a (none e) = a .some e
+  finds-not-lacks a (other {s = s} k way f) = clash (subst (λ s. same m (slotMark xs s) ≡ true) (leads-once refl (a .leads) way) (a .has)) f
 
   -- no slot is one of the two values
   module _ (small : C < absent) where

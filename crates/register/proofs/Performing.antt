@@ -22,7 +22,8 @@ use Rattle.twofold.specs.Gaps.{Unused}
 use Rattle.primary.proofs.Gaps.{unused-within}
 use Rattle.checking.specs.Header.{notTable, ownWords}
 use Rattle.checking.proofs.Own.{own-table}
-use Rattle.register.specs.Performs.{Lent, lends, alone, LengthsOf, numberOf, early, own, opensTable, updates, Later, unsound, reach, Leaves, unchanged, written, closed}
+use Rattle.register.specs.Performs.{Lent, lends, alone, LengthsOf, numberOf, early, own, opensTable, updates, Later, unsound}
+use Rattle.register.specs.Performs.{reach, Leaves, unchanged, written, closed}
 use Rattle.register.specs.Performs.{LeavesLists, Starts, stateOf, Follows, Spares, Performs}
 use Rattle.register.specs.Mirrors.{within, onAccepted, onTable, updateOwn}
 use Rattle.register.proofs.Own.{W-header, own-none, own-some, own-capacity, own-is, own-length, own-beyond, sound-table, held-capacity, held-own}
@@ -108,7 +109,9 @@ module _ (c : Call) (m : Mark) (xs : List ℕ) (lengths : LengthsOf c (alone xs)
       lengths = lengths;
       refuses = λ z. absurd (z entered);
       later = λ z. unsound opens wrong;
-      leaves = closed updating (List·getD-append ws beyond 0 openPlace (omega (arith, own-long ws long, W-header (capacityOf xs))) ∙ shut) long (kept-beyond ws long);
+      leaves =
+          closed updating (List·getD-append ws beyond 0 openPlace (omega (arith, own-long ws long, W-header (capacityOf xs))) ∙ shut) long
+          (kept-beyond ws long);
       leavesLists = no-lists (refusal 4 0) xs (ws ++ beyond) [] [] refl;
       starts = λ z. starts (ws ++ beyond);
       follows = λ T h. absurd (wrong (record { tree = T; holding = h }));
@@ -143,14 +146,16 @@ module _ (c : Call) (m : Mark) (xs : List ℕ) (lengths : LengthsOf c (alone xs)
         unfolding updateOwn onTable
         not-table t =
             let z = eqb-true (ownWords xs) 0 t in
-            rw t (refused-early c (alone xs) 3 0 (omega arith) (λ z. absurd (omega arith)) lengths (λ T h. absurd (sound-table xs h z)) (notOne (own-none xs z)) refl)
+            rw t (refused-early c (alone xs) 3 0 (omega arith) (λ z. absurd (omega arith)) lengths (λ T h. absurd (sound-table xs h z))
+            (notOne (own-none xs z)) refl)
 
         outside-sheet : eqb (ownWords xs) 0 ≡ false → markOutside m ≡ true → Performs c (alone xs) (alone (updateOwn f m xs .words)) (updateOwn f m xs .out)
         unfolding updateOwn onTable onAccepted enterMark
         outside-sheet t u =
             let z = eqb-false (ownWords xs) 0 t in
             rw (t, u)
-            (refused-early c (alone xs) 5 0 (omega arith) (λ z. absurd (omega arith)) lengths (λ T h. outside (stateOf xs T) 5 (rw u)) (one (own-some xs z) ∙ rw u) refl)
+            (refused-early c (alone xs) 5 0 (omega arith) (λ z. absurd (omega arith)) lengths (λ T h. outside (stateOf xs T) 5 (rw u))
+            (one (own-some xs z) ∙ rw u) refl)
 
         on-sheet : eqb (ownWords xs) 0 ≡ false → markOutside m ≡ false → Performs c (alone xs) (alone (updateOwn f m xs .words)) (updateOwn f m xs .out)
         unfolding updateOwn onTable onAccepted within enterMark

@@ -111,7 +111,10 @@ module _ (b : Box) (xs : List ℕ) where
         (λ t. rw t (damage-performs (inl (ltb-true (ownVisits xs) (visits xs table b) t))))
         (λ f. by-cases (ltb (liveOf (own xs)) (found xs table b))
         (λ t. rw (f, t) (damage-performs (inr (ltb-true (liveOf (own xs)) (found xs table b) t))))
-        (λ g. rw (f, g) (counted-performs (counts-to xs table b (ltb-false (ownVisits xs) (visits xs table b) f) (ltb-false (liveOf (own xs)) (found xs table b) g)))))
+        (λ g.
+        let soon = ltb-false (ownVisits xs) (visits xs table b) f in
+        let few = ltb-false (liveOf (own xs)) (found xs table b) g in
+        rw (f, g) (counted-performs (counts-to xs table b soon few))))
 
   pub count-performs : (a : Answer) → a ≡ count♯ b xs → Performs (history.count b) (alone xs) (alone xs) a
   unfolding count♯ countOwn♯ orNumber early enterBox

@@ -126,7 +126,8 @@ module _ (m : Mark) (on : markOutside m ≡ false) (xs : List ℕ) (small : capa
       (λ u. rw (f, t, u) (settle-insert (eqb-true (find♯ zs m) absent t) (eqb-false (liveOf zs) (capacityOf zs) u))))
       (λ u.
       let has = eqb-false (find♯ zs m) absent u in
-      rw (f, u) (refuses {n = 8} (omega arith) (omega arith) (present (find-finds zs m slots-small (eqb-false (find♯ zs m) damaged f) has)) (insert-present has))))
+      rw (f, u) (refuses {n = 8} (omega arith) (omega arith) (present (find-finds zs m slots-small (eqb-false (find♯ zs m) damaged f) has))
+      (insert-present has))))
 
 -- STRIKE
 

@@ -25,7 +25,8 @@ fn list_marks(
     k: u32,
 ) -> Listing
     requires { ⌜ (most ≤ 11781) × (k ≤ 65536) × (3 * k ≤ length (now first)) × (3 * k ≤ length (now second)) ⌝ }
-    ensures { λ r. ⌜ ListedOwn (boxValue b) most k (now (t .entry)) (now (first .entry)) (now (second .entry)) (now (first .exit)) (now (second .exit)) (listFigures r) ⌝ }
+    ensures { λ r. ⌜ ListedOwn (boxValue b) most k (now (t .entry)) (now (first .entry)) (now (second .entry))
+        (now (first .exit)) (now (second .exit)) (listFigures r) ⌝ }
 {
     let words = 3 * (k as usize);
     let tally = primary_search::list::list(t, b, &mut first[0..words], most + 2 * k);
@@ -37,7 +38,8 @@ fn list_marks(
 // finds most damage before anything is written.
 fn list_own(t: &[u32], most: u32, b: Box, first: &mut [u32], second: &mut [u32]) -> Listing
     requires { ⌜ (most ≤ 11781) × (getD (now t) livePlace 0 ≤ 65536) ⌝ }
-    ensures { λ r. ⌜ ListsOwn (boxValue b) most (now (t .entry)) (now (first .entry)) (now (second .entry)) (now (first .exit)) (now (second .exit)) (listFigures r) ⌝ }
+    ensures { λ r. ⌜ ListsOwn (boxValue b) most (now (t .entry)) (now (first .entry)) (now (second .entry))
+        (now (first .exit)) (now (second .exit)) (listFigures r) ⌝ }
 {
     let tally = primary_search::count::count(t, b.x1, b.x2, b.y1, b.y2);
     if most < tally::visits(tally) {
@@ -66,7 +68,8 @@ fn listed(
     first: &mut [u32],
     second: &mut [u32],
 ) -> Listing
-    ensures { λ r. ⌜ Lists (box x1 x2 y1 y2) (now (table .entry)) (now (first .entry)) (now (second .entry)) (now (first .exit)) (now (second .exit)) (listFigures r) ⌝ }
+    ensures { λ r. ⌜ Lists (box x1 x2 y1 y2) (now (table .entry)) (now (first .entry)) (now (second .entry))
+        (now (first .exit)) (now (second .exit)) (listFigures r) ⌝ }
 {
     let own = header::own(table);
     let words = own.words;

@@ -28,7 +28,9 @@ part-check-start c = search needs
 
 -- src/check.rt:17:39
 part-check-end : tie.Need-part-check-end
-part-check-end c = omega (arith, c .before .own-words .ensures, own-fits (c .before .before .before .args .table .now))
+part-check-end c =
+    let at-start = c .before .before .before in
+    omega (arith, c .before .own-words .ensures, own-fits (at-start .args .table .now))
 
 -- src/check.rt:17:9
 check-requires : tie.Need-check-requires
@@ -36,11 +38,18 @@ check-requires c κs = search needs
 
 -- src/check.rt:19:9
 returns-2 : tie.Need-returns-2
-returns-2 c = check-unsound _ _ (c .before .before .before .before .own-words .ensures) (c .before .before .before .if1 .left) _ (c .before .check .ensures) (c .if2 .taken)
+returns-2 c =
+    let at-if1 = c .before .before .before in
+    let at-own-words = at-if1 .before in
+    check-unsound _ _ (at-own-words .own-words .ensures) (at-if1 .if1 .left) _ (c .before .check .ensures)
+      (c .if2 .taken)
 
 -- src/check.rt:10:1
 returns-3 : tie.Need-returns-3
-returns-3 c = check-sound _ _ (c .before .before .before .before .own-words .ensures) (c .before .before .before .if1 .left) _ (c .before .check .ensures) (c .if2 .left)
+returns-3 c =
+    let at-if1 = c .before .before .before in
+    let at-own-words = at-if1 .before in
+    check-sound _ _ (at-own-words .own-words .ensures) (at-if1 .if1 .left) _ (c .before .check .ensures) (c .if2 .left)
 
 pub check-spec : {M : Type 1} → statement M
 check-spec =

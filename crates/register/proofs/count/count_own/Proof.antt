@@ -31,11 +31,13 @@ returns-2 : tie.Need-returns-2
 unfolding countOwn♯ tallied
 returns-2 c =
     let at-found = c .before .before in
-    let at-visits = at-found .before .before in
+    let at-if1 = at-found .before in
+    let at-visits = at-if1 .before in
+    let at-count = at-visits .before in
     rw (
-      ← at-visits .before .count .ensures,
+      ← at-count .count .ensures,
       ← at-visits .visits .ensures,
-      le-ltb _ _ (at-found .before .if1 .left),
+      le-ltb _ _ (at-if1 .if1 .left),
       ← at-found .found .ensures,
       ← c .before .live .ensures,
       lt-ltb _ _ (c .if2 .taken),
@@ -45,11 +47,13 @@ returns-3 : tie.Need-returns-3
 unfolding countOwn♯ tallied
 returns-3 c =
     let at-found = c .before .before in
-    let at-visits = at-found .before .before in
+    let at-if1 = at-found .before in
+    let at-visits = at-if1 .before in
+    let at-count = at-visits .before in
     rw (
-      ← at-visits .before .count .ensures,
+      ← at-count .count .ensures,
       ← at-visits .visits .ensures,
-      le-ltb _ _ (at-found .before .if1 .left),
+      le-ltb _ _ (at-if1 .if1 .left),
       ← at-found .found .ensures,
       ← c .before .live .ensures,
       le-ltb _ _ (c .if2 .left),

@@ -36,9 +36,9 @@ part-count-own-start c = search needs
 
 part-count-own-end : tie.Need-part-count-own-end
 part-count-own-end c =
-    let at-new = c .before .before .before in
-    let at-own = at-new .before .before in
-    omega (arith, at-own .own .ensures .0, own-fits (at-own .before .before .args .table .now))
+    let at-own = c .before .before .before .before .before in
+    let at-start = at-own .before .before in
+    omega (arith, at-own .own .ensures .0, own-fits (at-start .args .table .now))
 
 count-own-requires : tie.Need-count-own-requires
 count-own-requires c κs = search needs
@@ -47,15 +47,19 @@ returns-2 : tie.Need-returns-2
 returns-2 c =
     let at-new = c .before .before in
     let at-if1 = at-new .before in
-    count-crossed _ _ (at-if1 .before .own .ensures .0) _ (at-if1 .if1 .left) 6 (sym (at-new .new .ensures) ∙ ap boxOutcome (c .enum-told .given .1))
+    let at-own = at-if1 .before in
+    count-crossed _ _ (at-own .own .ensures .0) _ (at-if1 .if1 .left) 6
+      (sym (at-new .new .ensures) ∙ ap boxOutcome (c .enum-told .given .1))
 
 returns-3 : tie.Need-returns-3
 returns-3 c =
     let at-b = c .before .before .before in
     let at-new = at-b .before .before in
     let at-if1 = at-new .before in
-    let own = at-if1 .before .own .ensures in
-    count-own _ _ (own .0) _ (at-if1 .if1 .left) _ (own .1) _ (sym (at-new .new .ensures) ∙ ap boxOutcome (at-b .b .given .1)) _ (c .count-own .ensures)
+    let at-own = at-if1 .before in
+    let own = at-own .own .ensures in
+    count-own _ _ (own .0) _ (at-if1 .if1 .left) _ (own .1) _
+      (sym (at-new .new .ensures) ∙ ap boxOutcome (at-b .b .given .1)) _ (c .count-own .ensures)
 
 pub counted-spec : {M : Type 1} → statement M
 counted-spec =

@@ -27,7 +27,11 @@ same-length c = search needs
 -- src/insert.rt:24:9
 returns : tie.Need-returns
 unfolding insertOwn♯ insertFound
-returns c = rw (← c .before .before .before .before .before .find .ensures, eq-eqb _ _ (c .before .before .before .before .if1 .taken), ← c .before .before .close .ensures)
+returns c =
+    let at-close = c .before .before in
+    let at-if1 = at-close .before .before in
+    let at-find = at-if1 .before in
+    rw (← at-find .find .ensures, eq-eqb _ _ (at-if1 .if1 .taken), ← at-close .close .ensures)
 
 -- src/insert.rt:27:13
 live-requires : tie.Need-live-requires
@@ -44,7 +48,19 @@ same-length-2 c = search needs
 -- src/insert.rt:30:13
 returns-2 : tie.Need-returns-2
 unfolding insertOwn♯ insertFound
-returns-2 c = rw (← c .before .before .before .before .before .before .before .find .ensures, ne-eqb _ _ (c .before .before .before .before .before .before .if1 .left), eq-eqb _ _ (c .before .before .before .before .before .if2 .taken), ← c .before .before .before .live .ensures, ← c .before .capacity .ensures, eq-eqb _ _ (c .if3 .taken))
+returns-2 c =
+    let at-live = c .before .before .before in
+    let at-if2 = at-live .before .before in
+    let at-if1 = at-if2 .before in
+    let at-find = at-if1 .before in
+    rw (
+      ← at-find .find .ensures,
+      ne-eqb _ _ (at-if1 .if1 .left),
+      eq-eqb _ _ (at-if2 .if2 .taken),
+      ← at-live .live .ensures,
+      ← c .before .capacity .ensures,
+      eq-eqb _ _ (c .if3 .taken),
+    )
 
 -- src/insert.rt:32:13
 insert-requires : tie.Need-insert-requires
@@ -61,7 +77,25 @@ same-length-3 c = search needs
 -- src/insert.rt:33:9
 returns-3 : tie.Need-returns-3
 unfolding insertOwn♯ insertFound settledAfter
-returns-3 c = rw (← c .before .before .before .before .before .before .before .before .before .before .before .before .before .before .before .find .ensures, ne-eqb _ _ (c .before .before .before .before .before .before .before .before .before .before .before .before .before .before .if1 .left), eq-eqb _ _ (c .before .before .before .before .before .before .before .before .before .before .before .before .before .if2 .taken), ← c .before .before .before .before .before .before .before .before .before .before .before .live .ensures, ← c .before .before .before .before .before .before .before .before .before .capacity .ensures, ne-eqb _ _ (c .before .before .before .before .before .before .before .before .if3 .left), ← c .before .before .before .before .before .before .insert .ensures, ← c .before .before .settle .ensures)
+returns-3 c =
+    let at-settle = c .before .before in
+    let at-insert = at-settle .before .before .before .before in
+    let at-if3 = at-insert .before .before in
+    let at-capacity = at-if3 .before in
+    let at-live = at-capacity .before .before in
+    let at-if2 = at-live .before .before in
+    let at-if1 = at-if2 .before in
+    let at-find = at-if1 .before in
+    rw (
+      ← at-find .find .ensures,
+      ne-eqb _ _ (at-if1 .if1 .left),
+      eq-eqb _ _ (at-if2 .if2 .taken),
+      ← at-live .live .ensures,
+      ← at-capacity .capacity .ensures,
+      ne-eqb _ _ (at-if3 .if3 .left),
+      ← at-insert .insert .ensures,
+      ← at-settle .settle .ensures,
+    )
 
 -- src/insert.rt:19:1
 same-length-4 : tie.Need-same-length-4

@@ -48,7 +48,10 @@ part-insert-own-start c = search needs
 
 -- src/insert.rt:45:41
 part-insert-own-end : tie.Need-part-insert-own-end
-part-insert-own-end c = omega (arith, c .before .before .before .before .before .own-words .ensures, own-fits (c .before .before .before .before .before .before .before .before .args .table .now))
+part-insert-own-end c =
+    let at-own-words = c .before .before .before .before .before in
+    let at-start = at-own-words .before .before .before in
+    omega (arith, at-own-words .own-words .ensures, own-fits (at-start .args .table .now))
 
 -- src/insert.rt:45:30
 insert-own-requires : tie.Need-insert-own-requires
@@ -61,7 +64,12 @@ same-length-2 c = search needs
 -- src/insert.rt:36:1
 returns-2 : tie.Need-returns-2
 unfolding insert♯
-returns-2 c = update-outside _ _ (c .before .before .before .before .own-words .ensures) insertOwn♯ _ (c .before .before .before .if1 .left) 5 (sym (c .before .before .new .ensures) ∙ ap markOutcome (c .enum-told .given .1))
+returns-2 c =
+    let at-new = c .before .before in
+    let at-if1 = at-new .before in
+    let at-own-words = at-if1 .before in
+    update-outside _ _ (at-own-words .own-words .ensures) insertOwn♯ _ (at-if1 .if1 .left) 5
+      (sym (at-new .new .ensures) ∙ ap markOutcome (c .enum-told .given .1))
 
 -- src/insert.rt:36:1
 same-length-3 : tie.Need-same-length-3
@@ -70,7 +78,14 @@ same-length-3 c = search needs
 -- src/insert.rt:36:1
 returns-3 : tie.Need-returns-3
 unfolding insert♯
-returns-3 c = update-own _ _ (c .before .before .before .before .before .before .before .before .before .own-words .ensures) insertOwn♯ _ (c .before .before .before .before .before .before .before .before .if1 .left) _ (sym (c .before .before .before .before .before .before .before .new .ensures) ∙ ap markOutcome (c .before .before .before .before .before .m .given .1)) _ _ (c .before .before .insert-own .ensures)
+returns-3 c =
+    let at-insert-own = c .before .before in
+    let at-m = at-insert-own .before .before .before in
+    let at-new = at-m .before .before in
+    let at-if1 = at-new .before in
+    let at-own-words = at-if1 .before in
+    update-own _ _ (at-own-words .own-words .ensures) insertOwn♯ _ (at-if1 .if1 .left) _
+      (sym (at-new .new .ensures) ∙ ap markOutcome (at-m .m .given .1)) _ _ (at-insert-own .insert-own .ensures)
 
 pub inserted-spec : {M : Type 1} → statement M
 inserted-spec =

@@ -21,7 +21,8 @@ visits-requires : tie.Need-visits-requires
 visits-requires c κs = search needs
 
 returns : tie.Need-returns
-returns c = list-lost _ _ _ _ _ _ _ _ (c .before .before .count .ensures) (c .before .visits .ensures) refl (c .if1 .taken)
+returns c =
+    list-lost _ _ _ _ _ _ _ _ (c .before .before .count .ensures) (c .before .visits .ensures) refl (c .if1 .taken)
 
 found-requires : tie.Need-found-requires
 found-requires c κs = search needs
@@ -34,8 +35,9 @@ returns-2 c =
     let at-live = c .before in
     let at-found = at-live .before in
     let at-visits = at-found .before .before in
-    list-many _ _ _ _ _ _ _ _ (at-visits .before .count .ensures) (at-visits .visits .ensures) (at-found .found .ensures)
-    (omega (arith, at-live .live .ensures, c .if2 .taken))
+    let at-count = at-visits .before in
+    list-many _ _ _ _ _ _ _ _ (at-count .count .ensures) (at-visits .visits .ensures) (at-found .found .ensures)
+      (omega (arith, at-live .live .ensures, c .if2 .taken))
 
 cast-words : tie.Need-cast-words
 cast-words c = search needs
@@ -47,26 +49,37 @@ returns-3 : tie.Need-returns-3
 returns-3 c =
     let at-live = c .before .before in
     let at-found = at-live .before in
-    let at-visits = at-found .before .before in
-    list-short _ _ _ _ _ _ _ _ (at-visits .before .count .ensures) (at-visits .visits .ensures) (at-found .found .ensures) (at-found .before .if1 .left)
-    (omega (arith, at-live .live .ensures, c .before .if2 .left)) (inl (c .if3 .taken))
+    let at-if1 = at-found .before in
+    let at-visits = at-if1 .before in
+    let at-count = at-visits .before in
+    list-short _ _ _ _ _ _ _ _ (at-count .count .ensures) (at-visits .visits .ensures) (at-found .found .ensures)
+      (at-if1 .if1 .left) (omega (arith, at-live .live .ensures, c .before .if2 .left)) (inl (c .if3 .taken))
 
 returns-4 : tie.Need-returns-4
 returns-4 c =
     let at-if2 = c .before .before in
     let at-live = at-if2 .before in
     let at-found = at-live .before in
-    let at-visits = at-found .before .before in
-    list-short _ _ _ _ _ _ _ _ (at-visits .before .count .ensures) (at-visits .visits .ensures) (at-found .found .ensures) (at-found .before .if1 .left)
-    (omega (arith, at-live .live .ensures, at-if2 .if2 .left)) (inr (c .if4 .taken))
+    let at-if1 = at-found .before in
+    let at-visits = at-if1 .before in
+    let at-count = at-visits .before in
+    list-short _ _ _ _ _ _ _ _ (at-count .count .ensures) (at-visits .visits .ensures) (at-found .found .ensures)
+      (at-if1 .if1 .left) (omega (arith, at-live .live .ensures, at-if2 .if2 .left)) (inr (c .if4 .taken))
 
 list-marks-requires : tie.Need-list-marks-requires
 list-marks-requires c κs =
     let at-if4 = c .before .before in
-    let at-if2 = at-if4 .before .before in
+    let at-if3 = at-if4 .before in
+    let at-if2 = at-if3 .before in
     let at-live = at-if2 .before in
-    let start = at-live .before .before .before .before .before .before .before .before in
-    (start .pre .0, omega (arith, start .pre .1, at-live .live .ensures, at-if2 .if2 .left), at-if4 .before .if3 .left, at-if4 .if4 .left)
+    let at-count = at-live .before .before .before .before in
+    let start = at-count .before .before .before .before in
+    (
+      start .pre .0,
+      omega (arith, start .pre .1, at-live .live .ensures, at-if2 .if2 .left),
+      at-if3 .if3 .left,
+      at-if4 .if4 .left,
+    )
 
 same-length : tie.Need-same-length
 same-length c = search needs
@@ -82,9 +95,12 @@ returns-5 c =
     let at-if2 = at-if3 .before in
     let at-live = at-if2 .before in
     let at-found = at-live .before in
-    let at-visits = at-found .before .before in
-    list-lists _ _ _ _ _ _ _ _ (at-visits .before .count .ensures) (at-visits .visits .ensures) (at-found .found .ensures) (at-found .before .if1 .left)
-    (omega (arith, at-live .live .ensures, at-if2 .if2 .left)) _ _ _ (at-if3 .if3 .left) (at-if4 .if4 .left) (at-list-marks .list-marks .ensures)
+    let at-if1 = at-found .before in
+    let at-visits = at-if1 .before in
+    let at-count = at-visits .before in
+    list-lists _ _ _ _ _ _ _ _ (at-count .count .ensures) (at-visits .visits .ensures) (at-found .found .ensures)
+      (at-if1 .if1 .left) (omega (arith, at-live .live .ensures, at-if2 .if2 .left)) _ _ _ (at-if3 .if3 .left)
+      (at-if4 .if4 .left) (at-list-marks .list-marks .ensures)
 
 pub list-own-spec : {M : Type 1} → statement M
 list-own-spec =

@@ -37,24 +37,30 @@ part-list-own-start c = search needs
 
 part-list-own-end : tie.Need-part-list-own-end
 part-list-own-end c =
-    let at-new = c .before .before .before in
-    let at-own = at-new .before .before in
-    omega (arith, at-own .own .ensures .0, own-fits (at-own .before .before .before .before .args .table .now))
+    let at-own = c .before .before .before .before .before in
+    let at-start = at-own .before .before .before .before in
+    omega (arith, at-own .own .ensures .0, own-fits (at-start .args .table .now))
 
 -- the header's test has told that no more than C are live
 list-own-requires : tie.Need-list-own-requires
 list-own-requires c κs =
-    let at-new = c .before .before .before .before .before .before in
-    let at-if1 = at-new .before in
+    let at-b = c .before .before .before .before in
+    let at-if1 = at-b .before .before .before in
     let at-own = at-if1 .before in
-    let t = at-own .before .before .before .before .args .table .now in
-    (omega (arith, at-own .own .ensures .1, own-visits-few t), part-live t _ (at-own .own .ensures .0) (at-if1 .if1 .left))
+    let at-start = at-own .before .before .before .before in
+    let t = at-start .args .table .now in
+    (
+      omega (arith, at-own .own .ensures .1, own-visits-few t),
+      part-live t _ (at-own .own .ensures .0) (at-if1 .if1 .left),
+    )
 
 returns-2 : tie.Need-returns-2
 returns-2 c =
     let at-new = c .before .before in
     let at-if1 = at-new .before in
-    list-crossed _ _ _ _ _ (at-if1 .before .own .ensures .0) (at-if1 .if1 .left) 6 (sym (at-new .new .ensures) ∙ ap boxOutcome (c .enum-told .given .1))
+    let at-own = at-if1 .before in
+    list-crossed _ _ _ _ _ (at-own .own .ensures .0) (at-if1 .if1 .left) 6
+      (sym (at-new .new .ensures) ∙ ap boxOutcome (c .enum-told .given .1))
 
 same-length : tie.Need-same-length
 same-length c = search needs
@@ -68,9 +74,10 @@ returns-3 c =
     let at-b = at-list-own .before .before .before .before .before in
     let at-new = at-b .before .before in
     let at-if1 = at-new .before in
-    let own = at-if1 .before .own .ensures in
-    list-own _ _ _ _ _ (own .0) (at-if1 .if1 .left) _ (own .1) _ _ _ _ (sym (at-new .new .ensures) ∙ ap boxOutcome (at-b .b .given .1))
-    (at-list-own .list-own .ensures)
+    let at-own = at-if1 .before in
+    let own = at-own .own .ensures in
+    list-own _ _ _ _ _ (own .0) (at-if1 .if1 .left) _ (own .1) _ _ _ _
+      (sym (at-new .new .ensures) ∙ ap boxOutcome (at-b .b .given .1)) (at-list-own .list-own .ensures)
 
 pub listed-spec : {M : Type 1} → statement M
 listed-spec =

@@ -36,7 +36,9 @@ part-empty-start c = search needs
 
 -- src/open.rt:19:26
 part-empty-end : tie.Need-part-empty-end
-part-empty-end c = open-fits _ _ _ (sym (c .before .before .before .fit .ensures) ∙ ap openingOutcome (c .before .own .given .1))
+part-empty-end c =
+    let at-fit = c .before .before .before in
+    open-fits _ _ _ (sym (at-fit .fit .ensures) ∙ ap openingOutcome (c .before .own .given .1))
 
 -- src/open.rt:19:13
 empty-requires : tie.Need-empty-requires
@@ -56,7 +58,11 @@ same-length c = search needs
 
 -- src/open.rt:12:1
 returns-3 : tie.Need-returns-3
-returns-3 c = open-own _ _ _ (sym (c .before .before .before .before .before .before .before .fit .ensures) ∙ ap openingOutcome (c .before .before .before .before .before .own .given .1)) _ (c .before .before .empty .ensures)
+returns-3 c =
+    let at-empty = c .before .before in
+    let at-own = at-empty .before .before .before in
+    let at-fit = at-own .before .before in
+    open-own _ _ _ (sym (at-fit .fit .ensures) ∙ ap openingOutcome (at-own .own .given .1)) _ (at-empty .empty .ensures)
 
 pub opened-spec : {M : Type 1} → statement M
 opened-spec =

@@ -25,7 +25,11 @@ same-length c = search needs
 -- src/strike.rt:24:9
 returns : tie.Need-returns
 unfolding strikeOwn♯ strikeFound
-returns c = rw (← c .before .before .before .before .before .find .ensures, eq-eqb _ _ (c .before .before .before .before .if1 .taken), ← c .before .before .close .ensures)
+returns c =
+    let at-close = c .before .before in
+    let at-if1 = at-close .before .before in
+    let at-find = at-if1 .before in
+    rw (← at-find .find .ensures, eq-eqb _ _ (at-if1 .if1 .taken), ← at-close .close .ensures)
 
 -- src/strike.rt:27:9
 same-length-2 : tie.Need-same-length-2
@@ -51,7 +55,19 @@ same-length-3 c = search needs
 -- src/strike.rt:19:1
 returns-3 : tie.Need-returns-3
 unfolding strikeOwn♯ strikeFound settledAfter
-returns-3 c = rw (← c .before .before .before .before .before .before .before .before .before .before .find .ensures, ne-eqb _ _ (c .before .before .before .before .before .before .before .before .before .if1 .left), ne-eqb _ _ (c .before .before .before .before .before .before .before .before .if2 .left), ← c .before .before .before .before .before .before .strike .ensures, ← c .before .before .settle .ensures)
+returns-3 c =
+    let at-settle = c .before .before in
+    let at-strike = at-settle .before .before .before .before in
+    let at-if2 = at-strike .before .before in
+    let at-if1 = at-if2 .before in
+    let at-find = at-if1 .before in
+    rw (
+      ← at-find .find .ensures,
+      ne-eqb _ _ (at-if1 .if1 .left),
+      ne-eqb _ _ (at-if2 .if2 .left),
+      ← at-strike .strike .ensures,
+      ← at-settle .settle .ensures,
+    )
 
 pub strike-own-spec : {M : Type 1} → statement M
 strike-own-spec =

@@ -48,7 +48,10 @@ part-strike-own-start c = search needs
 
 -- src/strike.rt:42:41
 part-strike-own-end : tie.Need-part-strike-own-end
-part-strike-own-end c = omega (arith, c .before .before .before .before .before .own-words .ensures, own-fits (c .before .before .before .before .before .before .before .before .args .table .now))
+part-strike-own-end c =
+    let at-own-words = c .before .before .before .before .before in
+    let at-start = at-own-words .before .before .before in
+    omega (arith, at-own-words .own-words .ensures, own-fits (at-start .args .table .now))
 
 -- src/strike.rt:42:30
 strike-own-requires : tie.Need-strike-own-requires
@@ -61,7 +64,12 @@ same-length-2 c = search needs
 -- src/strike.rt:33:1
 returns-2 : tie.Need-returns-2
 unfolding strike♯
-returns-2 c = update-outside _ _ (c .before .before .before .before .own-words .ensures) strikeOwn♯ _ (c .before .before .before .if1 .left) 5 (sym (c .before .before .new .ensures) ∙ ap markOutcome (c .enum-told .given .1))
+returns-2 c =
+    let at-new = c .before .before in
+    let at-if1 = at-new .before in
+    let at-own-words = at-if1 .before in
+    update-outside _ _ (at-own-words .own-words .ensures) strikeOwn♯ _ (at-if1 .if1 .left) 5
+      (sym (at-new .new .ensures) ∙ ap markOutcome (c .enum-told .given .1))
 
 -- src/strike.rt:33:1
 same-length-3 : tie.Need-same-length-3
@@ -70,7 +78,14 @@ same-length-3 c = search needs
 -- src/strike.rt:33:1
 returns-3 : tie.Need-returns-3
 unfolding strike♯
-returns-3 c = update-own _ _ (c .before .before .before .before .before .before .before .before .before .own-words .ensures) strikeOwn♯ _ (c .before .before .before .before .before .before .before .before .if1 .left) _ (sym (c .before .before .before .before .before .before .before .new .ensures) ∙ ap markOutcome (c .before .before .before .before .before .m .given .1)) _ _ (c .before .before .strike-own .ensures)
+returns-3 c =
+    let at-strike-own = c .before .before in
+    let at-m = at-strike-own .before .before .before in
+    let at-new = at-m .before .before in
+    let at-if1 = at-new .before in
+    let at-own-words = at-if1 .before in
+    update-own _ _ (at-own-words .own-words .ensures) strikeOwn♯ _ (at-if1 .if1 .left) _
+      (sym (at-new .new .ensures) ∙ ap markOutcome (at-m .m .given .1)) _ _ (at-strike-own .strike-own .ensures)
 
 pub struck-spec : {M : Type 1} → statement M
 struck-spec =

@@ -19,7 +19,10 @@ same-length c = search needs
 -- src/update.rt:23:9
 returns : tie.Need-returns
 unfolding settled♯
-returns c = rw (eq-eqb _ _ (c .before .before .before .before .if1 .taken), ← c .before .before .close .ensures)
+returns c =
+    let at-close = c .before .before in
+    let at-if1 = at-close .before .before in
+    rw (eq-eqb _ _ (at-if1 .if1 .taken), ← at-close .close .ensures)
 
 -- src/update.rt:25:18
 live-requires : tie.Need-live-requires
