@@ -41,7 +41,8 @@ enum {
     REGISTER_SHORT_TABLE = 2,  /* the table has fewer than register_words(capacity) words */
     REGISTER_NOT_A_TABLE = 3,  /* not an open table: fewer than 96 words, word 0 not 1, a capacity
                                   out of range, too few words for it, or more live marks than it */
-    REGISTER_UNSOUND = 4,      /* the words of the table hold no tree */
+    REGISTER_UNSOUND = 4,      /* the words of the table hold no tree, or tell of more marks than are
+                                  live */
     REGISTER_MARK_OUTSIDE = 5, /* x or y is above REGISTER_LARGEST_COORDINATE */
     REGISTER_BOX_CROSSED = 6,  /* x1 > x2 or y1 > y2 */
     REGISTER_FULL = 7,         /* as many marks are live as the capacity says */

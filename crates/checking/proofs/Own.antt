@@ -15,6 +15,7 @@ use Rattle.model.proofs.Sizes.{capacity-some, capacity-small}
 use Rattle.sizes.specs.Sizes.{wordsFor, visitsWithin, visitsFor}
 use Rattle.sizes.proofs.Sizes.{levelsFor-within, levelsFor-most, visits-fit}
 use Rattle.table.specs.Layout.{openPlace}
+use Rattle.table.specs.Tally.{mostVisits}
 use Rattle.twofold.specs.Sound.{capacityOf, liveOf}
 use Rattle.checking.specs.Header.{notTable, ownWords, ownVisits}
 
@@ -85,7 +86,7 @@ module _ (xs : List ℕ) where
   unfolding ownWords ownVisits
   own-most z = by-cases (notTable xs) (λ t. absurd (z (rw t))) (λ f. rw f)
 
-  pub own-visits-few : ownVisits xs ≤ 11781
+  pub own-visits-few : ownVisits xs ≤ mostVisits
   unfolding ownVisits notTable visitsWithin
   own-visits-few =
       by-cases (notTable xs)

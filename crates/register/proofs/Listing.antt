@@ -19,7 +19,7 @@ use Rattle.model.specs.History as history
 use Rattle.model.proofs.Logic.{by-cases, or-true-right}
 use Rattle.model.proofs.Lists.{countIf-length, filterBy-length}
 use Rattle.table.specs.Marks.{listMarks, markWords}
-use Rattle.table.specs.Tally.{pack}
+use Rattle.table.specs.Tally.{mostVisits, pack}
 use Rattle.table.specs.After.{after}
 use Rattle.table.proofs.Lists.{markWords-length}
 use Rattle.sizes.specs.Sizes.{visitsWithin}
@@ -105,7 +105,7 @@ module _ (b : Box) (limit k : ℕ) (xs first second first′ second′ : List �
         }
 
     -- on a sound one, whose count gave k
-    module _ (is : limit ≡ visitsWithin (capacityOf (own xs))) (small : limit ≤ 11781) (T : Main) (h : Holding (own xs) T)
+    module _ (is : limit ≡ visitsWithin (capacityOf (own xs))) (small : limit ≤ mostVisits) (T : Main) (h : Holding (own xs) T)
         (many : k ≡ countIf (holds b) (marksOf T)) where
       abbrev plain : List Mark
       plain = filterBy (holds b) (marksOf T)

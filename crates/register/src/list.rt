@@ -6,6 +6,7 @@ ghost use Rattle.model.specs.Sheet.{box};
 ghost use Rattle.model.specs.History as history;
 ghost use Rattle.geometry.specs.Values.{boxValue};
 ghost use Rattle.table.specs.Layout.{livePlace};
+ghost use Rattle.table.specs.Tally.{mostVisits};
 ghost use Rattle.register.specs.Answers.{listAnswer, listFigures};
 ghost use Rattle.register.specs.Mirrors.{ListedOwn, ListsOwn, Lists};
 ghost use Rattle.register.specs.Performs.{Performs, lends};
@@ -24,7 +25,7 @@ fn list_marks(
     second: &mut [u32],
     k: u32,
 ) -> Listing
-    requires { ⌜ (most ≤ 11781) × (k ≤ 65536) × (3 * k ≤ length (now first)) × (3 * k ≤ length (now second)) ⌝ }
+    requires { ⌜ (most ≤ mostVisits) × (k ≤ 65536) × (3 * k ≤ length (now first)) × (3 * k ≤ length (now second)) ⌝ }
     ensures { λ r. ⌜ ListedOwn (boxValue b) most k (now (t .entry)) (now (first .entry)) (now (second .entry))
         (now (first .exit)) (now (second .exit)) (listFigures r) ⌝ }
 {
@@ -37,7 +38,7 @@ fn list_marks(
 // Lists from the table's own words, in which no sound tree takes more visits than `most`. The count comes first: it tells what the lists must hold, and
 // finds most damage before anything is written.
 fn list_own(t: &[u32], most: u32, b: Box, first: &mut [u32], second: &mut [u32]) -> Listing
-    requires { ⌜ (most ≤ 11781) × (getD (now t) livePlace 0 ≤ 65536) ⌝ }
+    requires { ⌜ (most ≤ mostVisits) × (getD (now t) livePlace 0 ≤ 65536) ⌝ }
     ensures { λ r. ⌜ ListsOwn (boxValue b) most (now (t .entry)) (now (first .entry)) (now (second .entry))
         (now (first .exit)) (now (second .exit)) (listFigures r) ⌝ }
 {
