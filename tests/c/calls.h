@@ -102,7 +102,18 @@ static inline int table_left_alone(struct call c, uint32_t number, struct lent t
     return unchanged_from(t, words_for(c.kind == OPEN ? c.capacity : t.kept[1]));
 }
 
-/* The same of the lists: all, and after an accepted list the words past the marks in both. */
+static inline int same_words(struct lent t, size_t from, size_t end) { return memcmp(t.kept + from, t.word + from, (end - from) * sizeof *t.kept) == 0; }
+
+/* The words of a table that docs/LAYOUT.md leaves unused are as they were kept: an update of a sound table writes at the layout's places only. */
+static inline int unused_left_alone(struct lent t) {
+    size_t c = t.kept[1], levels = HEADER + PER_MARK * c;
+    int same = same_words(t, 7, HEADER) && same_words(t, HEADER + 20 * c, levels);
+    for (size_t s = 0; s < c; s++) same = same && same_words(t, HEADER + 16 * s + 15, HEADER + 16 * s + 16);
+    for (size_t d = 0; d < levels_for((uint32_t)c); d++) same = same && same_words(t, levels + 16 * d * c + 8 * c, levels + 16 * (d + 1) * c);
+    return same;
+}
+
+/* What of the lists is left alone: all, and after an accepted list the words past the marks in both. */
 static inline int lists_left_alone(struct call c, struct answer r, const struct loan *l) {
     size_t from = c.kind == LIST && r.number == REGISTER_OK ? 3 * (size_t)r.count : 0;
     return unchanged_from(l->lists[0], from) && unchanged_from(l->lists[1], from);

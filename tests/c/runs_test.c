@@ -108,6 +108,7 @@ static void make_call(struct run *r, struct call c) {
         return;
     }
     if (watched) COMPARE(table_left_alone(c, a.number, table));
+    if (watched && writes && c.kind != OPEN) COMPARE(unused_left_alone(table));
     if (writes) r->in_step = 0;
     if (c.kind == LIST) compare_lists(r, c, a);
     COMPARE(all_guarded(&r->loan));

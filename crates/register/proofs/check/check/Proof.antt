@@ -42,7 +42,7 @@ returns-2 c =
     let at-if1 = c .before .before .before in
     let at-own-words = at-if1 .before in
     check-unsound _ _ (at-own-words .own-words .ensures) (at-if1 .if1 .left) _ (c .before .check .ensures)
-      (c .if2 .taken)
+    (c .if2 .taken)
 
 -- src/check.rt:10:1
 returns-3 : tie.Need-returns-3

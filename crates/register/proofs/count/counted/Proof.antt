@@ -49,7 +49,7 @@ returns-2 c =
     let at-if1 = at-new .before in
     let at-own = at-if1 .before in
     count-crossed _ _ (at-own .own .ensures .0) _ (at-if1 .if1 .left) 6
-      (sym (at-new .new .ensures) ∙ ap boxOutcome (c .enum-told .given .1))
+    (sym (at-new .new .ensures) ∙ ap boxOutcome (c .enum-told .given .1))
 
 returns-3 : tie.Need-returns-3
 returns-3 c =
@@ -59,7 +59,7 @@ returns-3 c =
     let at-own = at-if1 .before in
     let own = at-own .own .ensures in
     count-own _ _ (own .0) _ (at-if1 .if1 .left) _ (own .1) _
-      (sym (at-new .new .ensures) ∙ ap boxOutcome (at-b .b .given .1)) _ (c .count-own .ensures)
+    (sym (at-new .new .ensures) ∙ ap boxOutcome (at-b .b .given .1)) _ (c .count-own .ensures)
 
 pub counted-spec : {M : Type 1} → statement M
 counted-spec =

@@ -69,7 +69,7 @@ returns-2 c =
     let at-if1 = at-new .before in
     let at-own-words = at-if1 .before in
     update-outside _ _ (at-own-words .own-words .ensures) insertOwn♯ _ (at-if1 .if1 .left) 5
-      (sym (at-new .new .ensures) ∙ ap markOutcome (c .enum-told .given .1))
+    (sym (at-new .new .ensures) ∙ ap markOutcome (c .enum-told .given .1))
 
 -- src/insert.rt:36:1
 same-length-3 : tie.Need-same-length-3
@@ -85,7 +85,7 @@ returns-3 c =
     let at-if1 = at-new .before in
     let at-own-words = at-if1 .before in
     update-own _ _ (at-own-words .own-words .ensures) insertOwn♯ _ (at-if1 .if1 .left) _
-      (sym (at-new .new .ensures) ∙ ap markOutcome (at-m .m .given .1)) _ _ (at-insert-own .insert-own .ensures)
+    (sym (at-new .new .ensures) ∙ ap markOutcome (at-m .m .given .1)) _ _ (at-insert-own .insert-own .ensures)
 
 pub inserted-spec : {M : Type 1} → statement M
 inserted-spec =

@@ -23,7 +23,7 @@ returns : tie.Need-returns
 returns c =
     let at-listed = c .before .before .before .before in
     list-performs _ _ _ _ (at-listed .listed .ensures) (at-listed .listed .kept .1 .1 .1 .1 .1 .0)
-      (at-listed .listed .kept .1 .1 .1 .1 .1 .1 .0)
+    (at-listed .listed .kept .1 .1 .1 .1 .1 .1 .0)
 
 pub list-spec : {M : Type 1} → statement M
 list-spec = tie.close (tie.spec listed-requires same-length same-length-2 returns)

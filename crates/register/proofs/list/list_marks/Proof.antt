@@ -57,7 +57,7 @@ returns c =
     let at-sorted = c .before .before .before .before .before in
     let at-listed = at-sorted .before .before .before .before .before in
     list-marks _ _ _ _ _ _ _ _ _ _ _ _ (at-listed .list .ensures) (at-listed .list .kept .1 .1 .0) (c .visits .ensures)
-      (at-sorted .sort-lists .ensures .0) (at-sorted .sort-lists .ensures .1)
+    (at-sorted .sort-lists .ensures .0) (at-sorted .sort-lists .ensures .1)
 
 pub list-marks-spec : {M : Type 1} → statement M
 list-marks-spec =

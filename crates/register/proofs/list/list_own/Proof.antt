@@ -37,7 +37,7 @@ returns-2 c =
     let at-visits = at-found .before .before in
     let at-count = at-visits .before in
     list-many _ _ _ _ _ _ _ _ (at-count .count .ensures) (at-visits .visits .ensures) (at-found .found .ensures)
-      (omega (arith, at-live .live .ensures, c .if2 .taken))
+    (omega (arith, at-live .live .ensures, c .if2 .taken))
 
 cast-words : tie.Need-cast-words
 cast-words c = search needs
@@ -53,7 +53,7 @@ returns-3 c =
     let at-visits = at-if1 .before in
     let at-count = at-visits .before in
     list-short _ _ _ _ _ _ _ _ (at-count .count .ensures) (at-visits .visits .ensures) (at-found .found .ensures)
-      (at-if1 .if1 .left) (omega (arith, at-live .live .ensures, c .before .if2 .left)) (inl (c .if3 .taken))
+    (at-if1 .if1 .left) (omega (arith, at-live .live .ensures, c .before .if2 .left)) (inl (c .if3 .taken))
 
 returns-4 : tie.Need-returns-4
 returns-4 c =
@@ -64,7 +64,7 @@ returns-4 c =
     let at-visits = at-if1 .before in
     let at-count = at-visits .before in
     list-short _ _ _ _ _ _ _ _ (at-count .count .ensures) (at-visits .visits .ensures) (at-found .found .ensures)
-      (at-if1 .if1 .left) (omega (arith, at-live .live .ensures, at-if2 .if2 .left)) (inr (c .if4 .taken))
+    (at-if1 .if1 .left) (omega (arith, at-live .live .ensures, at-if2 .if2 .left)) (inr (c .if4 .taken))
 
 list-marks-requires : tie.Need-list-marks-requires
 list-marks-requires c κs =
@@ -73,8 +73,7 @@ list-marks-requires c κs =
     let at-if2 = at-if3 .before in
     let at-live = at-if2 .before in
     let at-count = at-live .before .before .before .before in
-    let start = at-count .before .before .before .before in
-    (
+    let start = at-count .before .before .before .before in (
       start .pre .0,
       omega (arith, start .pre .1, at-live .live .ensures, at-if2 .if2 .left),
       at-if3 .if3 .left,
@@ -99,8 +98,8 @@ returns-5 c =
     let at-visits = at-if1 .before in
     let at-count = at-visits .before in
     list-lists _ _ _ _ _ _ _ _ (at-count .count .ensures) (at-visits .visits .ensures) (at-found .found .ensures)
-      (at-if1 .if1 .left) (omega (arith, at-live .live .ensures, at-if2 .if2 .left)) _ _ _ (at-if3 .if3 .left)
-      (at-if4 .if4 .left) (at-list-marks .list-marks .ensures)
+    (at-if1 .if1 .left) (omega (arith, at-live .live .ensures, at-if2 .if2 .left)) _ _ _ (at-if3 .if3 .left)
+    (at-if4 .if4 .left) (at-list-marks .list-marks .ensures)
 
 pub list-own-spec : {M : Type 1} → statement M
 list-own-spec =

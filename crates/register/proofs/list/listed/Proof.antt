@@ -48,8 +48,7 @@ list-own-requires c κs =
     let at-if1 = at-b .before .before .before in
     let at-own = at-if1 .before in
     let at-start = at-own .before .before .before .before in
-    let t = at-start .args .table .now in
-    (
+    let t = at-start .args .table .now in (
       omega (arith, at-own .own .ensures .1, own-visits-few t),
       part-live t _ (at-own .own .ensures .0) (at-if1 .if1 .left),
     )
@@ -60,7 +59,7 @@ returns-2 c =
     let at-if1 = at-new .before in
     let at-own = at-if1 .before in
     list-crossed _ _ _ _ _ (at-own .own .ensures .0) (at-if1 .if1 .left) 6
-      (sym (at-new .new .ensures) ∙ ap boxOutcome (c .enum-told .given .1))
+    (sym (at-new .new .ensures) ∙ ap boxOutcome (c .enum-told .given .1))
 
 same-length : tie.Need-same-length
 same-length c = search needs
@@ -77,7 +76,7 @@ returns-3 c =
     let at-own = at-if1 .before in
     let own = at-own .own .ensures in
     list-own _ _ _ _ _ (own .0) (at-if1 .if1 .left) _ (own .1) _ _ _ _
-      (sym (at-new .new .ensures) ∙ ap boxOutcome (at-b .b .given .1)) (at-list-own .list-own .ensures)
+    (sym (at-new .new .ensures) ∙ ap boxOutcome (at-b .b .given .1)) (at-list-own .list-own .ensures)
 
 pub listed-spec : {M : Type 1} → statement M
 listed-spec =
