@@ -94,15 +94,17 @@ static inline int gives_no_figure(struct answer r) {
     return same_answer(r, none);
 }
 
-/* Document 01, "Where each call may stop": the words of the table that a call with this number leaves as they were. */
+static inline int same_words(struct lent t, size_t from, size_t end) { return memcmp(t.kept + from, t.word + from, (end - from) * sizeof *t.kept) == 0; }
+
+/* Document 01, "Where each call may stop": the words of the table that a call with this number leaves as they were. An open writes words 0 to 6 and the lists
+   `used` and `place`. */
 static inline int table_left_alone(struct call c, uint32_t number, struct lent t) {
     int updates = c.kind == INSERT || c.kind == STRIKE;
     if (updates && number == REGISTER_UNSOUND) return t.word[0] == 0 && unchanged_from(t, words_for(t.kept[1]));
     if (number != REGISTER_OK || c.kind == COUNT || c.kind == LIST || c.kind == EXAMINE) return unchanged_from(t, 0);
-    return unchanged_from(t, words_for(c.kind == OPEN ? c.capacity : t.kept[1]));
+    if (c.kind == OPEN) return same_words(t, 7, HEADER + 16 * (size_t)c.capacity) && unchanged_from(t, HEADER + 18 * (size_t)c.capacity);
+    return unchanged_from(t, words_for(t.kept[1]));
 }
-
-static inline int same_words(struct lent t, size_t from, size_t end) { return memcmp(t.kept + from, t.word + from, (end - from) * sizeof *t.kept) == 0; }
 
 /* The words of a table that docs/LAYOUT.md leaves unused are as they were kept: an update of a sound table writes at the layout's places only. */
 static inline int unused_left_alone(struct lent t) {

@@ -104,7 +104,7 @@ open-accepted words before after a e p = ap (λ a. a .number) (open-later (p .la
 -- and leaves the table as the program begins with it, whatever its words were
 pub open-begins : (xs ys : List ℕ) (a : Answer) → length xs ≡ tableWords → Performs (openFor marks (length xs)) (alone xs) (alone ys) a
     → (capacityOf ys ≡ marks) × Holding (own ys) none
-open-begins xs ys a long p = p .starts (open-accepted (length xs) (alone xs) (alone ys) a long p)
+open-begins xs ys a long p = let made = p .starts (open-accepted (length xs) (alone xs) (alone ys) a long p) in (made .0, made .1)
 
 -- from there on, whatever the input
 pub program-prints : (s : Dialogue) → Begun s → (input output : List ℕ) → Runs s input output → Prints listWords opened (linesOf input) output

@@ -15,7 +15,7 @@ use Rattle.model.specs.Lists.{indicator}
 use Rattle.model.specs.Sizes.{D, W, capacityOutside}
 use Rattle.model.specs.Laws.{nil}
 use Rattle.model.proofs.Logic.{by-cases}
-use Rattle.table.specs.Layout.{openPlace, capacityPlace, livePlace, rootPlace, usedPlace, placePlace}
+use Rattle.table.specs.Layout.{openPlace, capacityPlace, livePlace, rootPlace, usedPlace, placePlace, runPlace}
 use Rattle.nodes.specs.Arms.{Arm, noArm, armAt, putArm}
 use Rattle.nodes.proofs.Spots.{arm-same, putArm-length, putArm-other, putArm-same}
 use Rattle.twofold.specs.Sound.{capacityOf, liveOf, EachOnce, Holding}
@@ -36,6 +36,20 @@ freeSlots-length (suc n) C xs = freeSlots-length n C (ownPlace C n xs) ∙ own-l
 arm-length : (xs : List ℕ) (at : ℕ) (a : Arm) → length (putArm xs at a) ≡ length xs
 unfolding putArm
 arm-length xs at a = by-cases (leb (at + 4) (length xs)) (λ t. putArm-length xs at a (leb-true (at + 4) (length xs) t)) (λ f. rw f)
+
+-- words that it does not write
+
+own-other : (C n : ℕ) (xs : List ℕ) → n < C → (i : ℕ) → (i < usedPlace C 0) ⊎ (runPlace C 0 ≤ i) → getD (ownPlace C n xs) i 0 ≡ getD xs i 0
+unfolding ownPlace
+own-other C n xs k i (inl h) =
+    getD-set-other (set xs (usedPlace C n) n) (placePlace C n) i n 0 (omega arith) ∙ getD-set-other xs (usedPlace C n) i n 0 (omega arith)
+own-other C n xs k i (inr h) =
+    getD-set-other (set xs (usedPlace C n) n) (placePlace C n) i n 0 (omega arith) ∙ getD-set-other xs (usedPlace C n) i n 0 (omega arith)
+
+freeSlots-other : (n C : ℕ) (xs : List ℕ) → n ≤ C → (i : ℕ) → (i < usedPlace C 0) ⊎ (runPlace C 0 ≤ i) → getD (freeSlots♯ n C xs) i 0 ≡ getD xs i 0
+unfolding freeSlots♯
+freeSlots-other zero C xs k i h = refl
+freeSlots-other (suc n) C xs k i h = freeSlots-other n C (ownPlace C n xs) (omega arith) i h ∙ own-other C n xs (omega arith) i h
 
 -- the words after each step of the header's writing
 module _ (C : ℕ) (xs : List ℕ) where
@@ -76,6 +90,13 @@ module _ (C : ℕ) (xs : List ℕ) where
     empty-capacity =
         empty-word capacityPlace (inl (omega arith)) (omega arith) ∙ getD-set-other (set listed capacityPlace C) livePlace capacityPlace 0 0 (omega arith)
         ∙ getD-set-same listed capacityPlace C 0 (omega (arith, freeSlots-length C C xs))
+
+    -- it writes the header's seven words and the lists of slots, and nothing else
+    pub empty-other : (i : ℕ) → 7 ≤ i → (i < usedPlace C 0) ⊎ (runPlace C 0 ≤ i) → getD (empty♯ C xs) i 0 ≡ getD xs i 0
+    empty-other i l h =
+        empty-word i (inr l) (omega arith) ∙ getD-set-other (set listed capacityPlace C) livePlace i 0 0 (omega arith)
+        ∙ getD-set-other listed capacityPlace i C 0 (omega arith)
+        ∙ freeSlots-other C C xs (omega arith) i h
 
     empty-live : liveOf (empty♯ C xs) ≡ 0
     empty-live =

@@ -1,23 +1,25 @@
 -- Open: whatever the words were, an accepted open leaves an empty table of the capacity. Assumes nothing.
-use Prim.Native.Nat.{ℕ, _+_, _≤_}
+use Prim.Native.Nat.{ℕ, _+_, _≤_, _<_}
 use mathlib.Core.Path.{_≡_, refl, sym, ap, subst, _∙_}
+use mathlib.Core.Logic.{_⊎_}
 use mathlib.Core.Bool.{true, false}
 use mathlib.Core.List.{List, [], _++_}
 use mathlib.Core.Option.{none}
 use native.Mathlib.Omega.{arith}
 use lib.Dec.{ltb}
-use lib.ListN.{length, getD, take, drop, length-append, length-drop}
-use lib.Seq.{drop-at, length-take-le}
+use lib.ListN.{length, getD, take, drop, length-append, length-drop, List·getD-append}
+use lib.Seq.{drop-at, getD-take, length-take-le}
 use borrow.Author.Tests.{ltb-false, le-ltb}
 use Rattle.model.specs.Sizes.{W, capacityOutside}
 use Rattle.model.specs.Sheet.{Main}
 use Rattle.model.specs.Refusals.{refused, openTable}
 use Rattle.model.specs.History.{openFor, Answer, refusal, updated}
 use Rattle.model.proofs.Logic.{by-cases, clash}
+use Rattle.table.specs.Layout.{usedPlace, runPlace}
 use Rattle.table.specs.After.{After, after}
 use Rattle.twofold.specs.Sound.{capacityOf, Holding}
 use Rattle.primary.specs.Empty.{empty♯}
-use Rattle.primary.proofs.Emptying.{empty-length, empty-capacity, empty-holding}
+use Rattle.primary.proofs.Emptying.{empty-length, empty-capacity, empty-other, empty-holding}
 use Rattle.register.specs.Performs.{alone, early, own, opens, written, Performs}
 use Rattle.register.specs.Mirrors.{within, onAccepted, open♯}
 use Rattle.register.proofs.Own.{W-header, held-capacity, held-own}
@@ -48,6 +50,12 @@ module _ (c : ℕ) (xs : List ℕ) where
     opened-own : Holding (own ys) none
     opened-own = rw (held-own opened-holding (drop (W c) xs)) opened-holding
 
+    opened-other : (i : ℕ) → 7 ≤ i → i < W c → (i < usedPlace c 0) ⊎ (runPlace c 0 ≤ i) → getD ys i 0 ≡ getD xs i 0
+    opened-other i l h off =
+        List·getD-append ws (drop (W c) xs) 0 i (omega (arith, own-long))
+        ∙ empty-other c (take (W c) xs) (omega (arith, length-take-le (W c) xs room, W-header c)) i l off
+        ∙ getD-take (W c) xs i 0 h
+
     opened-performs : Performs (openFor c (length xs)) (alone xs) (alone ys) (updated 0 0)
     unfolding early openTable
     opened-performs =
@@ -58,7 +66,7 @@ module _ (c : ℕ) (xs : List ℕ) where
           later = λ z. opens;
           leaves = written opened-length (drop-at ws (drop (W c) xs) (W c) own-long);
           leavesLists = no-lists (updated 0 0) xs ys [] [] refl;
-          starts = λ z. (opened-capacity, opened-own);
+          starts = λ z. (opened-capacity, opened-own, opened-other);
           follows = λ T h. record {
             answers = rw (inside, short);
             capacity = rw (inside, short) opened-capacity;

@@ -40,7 +40,7 @@ no-lists a xs ys f s e = record { answer = rw e; pastFirst = refl; pastSecond = 
 module _ (c : Call) (xs f s f′ s′ : List ℕ) (a : Answer) where
   pub performs-kept : (a .number ≡ 4 → updates c ≡ false) → LengthsOf c (lends xs f s) → (early c xs ≢ 0 → a ≡ refusal (early c xs) 0)
       → (early c xs ≡ 0 → Later xs c a)
-      → LeavesLists a (lends xs f s) (lends xs f′ s′) → (a .number ≡ 0 → Starts c xs)
+      → LeavesLists a (lends xs f s) (lends xs f′ s′) → (a .number ≡ 0 → Starts c xs xs)
       → ((T : Main) → Holding (own xs) T → (a ≡ answer c (stateOf xs T)) × (next c (stateOf xs T) ≡ stateOf xs T))
       → Performs c (lends xs f s) (lends xs f′ s′) a
   performs-kept shut lengths refuses later lists starts says = record {
@@ -90,7 +90,7 @@ state-own xs T = ap (λ c. record { capacity = c; plain = marksOf T; tree = T })
 -- what an update of the mark m does with a whole table, from what it does with the own words
 module _ (c : Call) (m : Mark) (xs : List ℕ) (lengths : LengthsOf c (alone xs)) (updating : updates c ≡ true) (reaches : reach c xs ≡ W (capacityOf xs))
     (opens : opensTable c ≡ false) (notOne : notTable xs ≡ true → early c xs ≡ 3) (one : notTable xs ≡ false → early c xs ≡ numberOf (enterMark m))
-    (outside : (s : State) (n : ℕ) → enterMark m ≡ refused n → refusal n 0 ≡ answer c s) (starts : (ys : List ℕ) → Starts c ys) where
+    (outside : (s : State) (n : ℕ) → enterMark m ≡ refused n → refusal n 0 ≡ answer c s) (starts : (ys : List ℕ) → Starts c xs ys) where
   abbrev beyond : List ℕ
   beyond = drop (W (capacityOf xs)) xs
 

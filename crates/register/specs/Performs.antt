@@ -13,7 +13,7 @@ use Rattle.model.specs.Tree.{marksOf}
 use Rattle.model.specs.Sheet.{Mark, Box, Main}
 use Rattle.model.specs.Refusals.{Outcome, accepted, refused, openTable, enterMark, enterBox}
 use Rattle.model.specs.History.{Call, openFor, insert, strike, count, list, check, State, Answer, refusal, updated, counted, listedIn, whichList, answer, next}
-use Rattle.table.specs.Layout.{openPlace}
+use Rattle.table.specs.Layout.{openPlace, usedPlace, runPlace}
 use Rattle.sizes.specs.Sizes.{visitsWithin}
 use Rattle.table.specs.Marks.{markWords}
 use Rattle.table.specs.Tally.{pack}
@@ -129,14 +129,16 @@ pub record LeavesLists (a : Answer) (before after : Lent) : Type 0 where
   pub pastFirst : drop (3 * length (a .listed)) (after .first) ≡ drop (3 * length (a .listed)) (before .first)
   pub pastSecond : drop (3 * length (a .listed)) (after .second) ≡ drop (3 * length (a .listed)) (before .second)
 
--- an accepted open leaves a sound table of that capacity without marks, whatever the words were
-abbrev pub Starts : Call → List ℕ → Type 0
-Starts (openFor c words) ys = (capacityOf ys ≡ c) × Holding (own ys) none
-Starts (insert m) ys = Unit {0}
-Starts (strike m) ys = Unit {0}
-Starts (count b) ys = Unit {0}
-Starts (list b first second) ys = Unit {0}
-Starts check ys = Unit {0}
+-- an accepted open leaves a sound table of that capacity without marks, whatever the words were; it writes words 0 to 6 and the two lists of slots, and no other
+abbrev pub Starts : Call → List ℕ → List ℕ → Type 0
+Starts (openFor c words) xs ys =
+    (capacityOf ys ≡ c) × Holding (own ys) none
+    × ((i : ℕ) → 7 ≤ i → i < W c → (i < usedPlace c 0) ⊎ (runPlace c 0 ≤ i) → getD ys i 0 ≡ getD xs i 0)
+Starts (insert m) xs ys = Unit {0}
+Starts (strike m) xs ys = Unit {0}
+Starts (count b) xs ys = Unit {0}
+Starts (list b first second) xs ys = Unit {0}
+Starts check xs ys = Unit {0}
 
 -- on a sound table, which holds the tree T, the answer is the history's (the plain list is T's marks), and the table left holds the next tree
 abbrev pub stateOf : List ℕ → Main → State
@@ -158,6 +160,6 @@ pub record Performs (c : Call) (before after : Lent) (a : Answer) : Type 0 where
   pub later : early c (before .table) ≡ 0 → Later (before .table) c a
   pub leaves : Leaves c (before .table) (a .number) (after .table)
   pub leavesLists : LeavesLists a before after
-  pub starts : a .number ≡ 0 → Starts c (after .table)
+  pub starts : a .number ≡ 0 → Starts c (before .table) (after .table)
   pub follows : (T : Main) → Holding (own (before .table)) T → Follows c (stateOf (before .table) T) (after .table) a
   pub spares : updates c ≡ true → SoundTable (own (before .table)) → Spares (before .table) (after .table)
