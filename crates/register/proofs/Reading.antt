@@ -2,14 +2,14 @@
 use Prim.Native.Nat.{ℕ, _+_, _-_, _*_, _/_, _%_, _≤_, _<_}
 use mathlib.Core.Path.{_≡_, refl, sym, ap, ap₂, subst, _∙_}
 use mathlib.Core.Logic.{_≢_, _⊎_, inl, inr}
-use mathlib.Core.Bool.{true, false}
+use mathlib.Core.Bool.{Bool, true, false}
 use mathlib.Core.List.{List, []}
 use native.Mathlib.Omega.{arith}
 use native.Mathlib.Nat.{sub-zero}
 use lib.Dec.{eqb, ltb}
 use lib.ListN.{length, take}
 use borrow.Author.Tests.{eqb-true, eqb-false, ltb-true, ltb-false, le-ltb}
-use Rattle.model.specs.Lists.{countIf}
+use Rattle.model.specs.Lists.{if_then_else_, countIf}
 use Rattle.model.specs.Tree.{marksOf}
 use Rattle.model.specs.Sheet.{Box, Main, boxCrossed, holds, main}
 use Rattle.model.specs.Refusals.{enterBox}
@@ -104,17 +104,18 @@ module _ (b : Box) (xs : List ℕ) where
         (no-lists (counted (found xs table b) (visits xs table b)) xs xs [] [] refl) (λ z. tt)
         (λ T h. (rw entered (ap₂ counted (found-sound xs b entered T h) (visits-sound xs b entered T h)), count-keeps b (stateOf xs T)))
 
+    -- what is told, by the two tests
+    told-performs : (late many : Bool) → ltb (ownVisits xs) (visits xs table b) ≡ late → ltb (liveOf (own xs)) (found xs table b) ≡ many
+        → Performs (history.count b) (alone xs) (alone xs)
+        (if late then refusal 4 0 else (if many then refusal 4 0 else counted (found xs table b) (visits xs table b)))
+    told-performs true many t u = damage-performs (inl (ltb-true (ownVisits xs) (visits xs table b) t))
+    told-performs false true f t = damage-performs (inr (ltb-true (liveOf (own xs)) (found xs table b) t))
+    told-performs false false f g =
+        counted-performs (counts-to xs table b (ltb-false (ownVisits xs) (visits xs table b) f) (ltb-false (liveOf (own xs)) (found xs table b) g))
+
     tallied-performs : Performs (history.count b) (alone xs) (alone xs) (tallied (ownVisits xs) (liveOf (own xs)) (mainCount♯ (own xs) b))
     unfolding tallied
-    tallied-performs =
-        by-cases (ltb (ownVisits xs) (visits xs table b))
-        (λ t. rw t (damage-performs (inl (ltb-true (ownVisits xs) (visits xs table b) t))))
-        (λ f. by-cases (ltb (liveOf (own xs)) (found xs table b))
-        (λ t. rw (f, t) (damage-performs (inr (ltb-true (liveOf (own xs)) (found xs table b) t))))
-        (λ g.
-        let soon = ltb-false (ownVisits xs) (visits xs table b) f in
-        let few = ltb-false (liveOf (own xs)) (found xs table b) g in
-        rw (f, g) (counted-performs (counts-to xs table b soon few))))
+    tallied-performs = told-performs (ltb (ownVisits xs) (visits xs table b)) (ltb (liveOf (own xs)) (found xs table b)) refl refl
 
   pub count-performs : (a : Answer) → a ≡ count♯ b xs → Performs (history.count b) (alone xs) (alone xs) a
   unfolding count♯ countOwn♯ orNumber early enterBox

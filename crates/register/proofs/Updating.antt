@@ -2,13 +2,13 @@
 use Prim.Native.Nat.{ℕ, _+_, _≤_, _<_}
 use mathlib.Core.Path.{_≡_, refl, sym, ap, ap₂, subst, _∙_}
 use mathlib.Core.Logic.{_≢_}
-use mathlib.Core.Bool.{true, false}
+use mathlib.Core.Bool.{Bool, true, false}
 use mathlib.Core.List.{List, [], _∷_}
 use native.Mathlib.Omega.{arith}
 use lib.Dec.{eqb, ltb}
 use lib.ListN.{length, getD, set}
 use borrow.Author.Tests.{eqb-true, eqb-false, eq-eqb, ne-eqb, ltb-true, ltb-false}
-use Rattle.model.specs.Lists.{countIf, insertSorted, removeFirst}
+use Rattle.model.specs.Lists.{if_then_else_, countIf, insertSorted, removeFirst}
 use Rattle.model.specs.Tree.{marksOf}
 use Rattle.model.specs.Sheet.{Mark, Main, markOutside, same, belowX, alongX, auxiliary, main}
 use Rattle.model.specs.Refusals.{refused, enterMark}
@@ -111,19 +111,24 @@ module _ (m : Mark) (on : markOutside m ≡ false) (xs : List ℕ) (small : capa
           (λ f. rw f (accepts (inserts (find-lacks zs m slots-small new) (omega (arith, fits, own-live xs, own-capacity xs, room))) insert-goes
           (λ T h. insert-unused zs T h m on (lacks T h) (spare T h))))
 
+  -- what is done with a mark that is not there, by the test for room
+  abbrev newMark : Bool → After Answer
+  newMark isFull = if isFull then after (refusal 7 0) zs else settledAfter (tableInsert♯ m zs)
+
+  insert-new : find♯ zs m ≡ absent → (isFull : Bool) → eqb (liveOf zs) (capacityOf zs) ≡ isFull
+      → OwnUpdate (history.insert m) xs (newMark isFull .out) (newMark isFull .words)
+  insert-new lacks true t =
+      let e = eqb-true (liveOf zs) (capacityOf zs) t in
+      refuses {n = 7} (omega arith) (omega arith) (full (find-lacks zs m slots-small lacks) (sym (own-live xs) ∙ e ∙ own-capacity xs)) (insert-full lacks e)
+  insert-new lacks false f = settle-insert lacks (eqb-false (liveOf zs) (capacityOf zs) f)
+
   insert-own : OwnUpdate (history.insert m) xs (insertOwn♯ m zs .out) (insertOwn♯ m zs .words)
   unfolding insertOwn♯ insertFound closed♯
   insert-own =
       by-cases (eqb (find♯ zs m) damaged)
       (λ t. rw t (closes (insert-unsound (eqb-true (find♯ zs m) damaged t)) (shut zs)))
       (λ f. by-cases (eqb (find♯ zs m) absent)
-      (λ t. by-cases (eqb (liveOf zs) (capacityOf zs))
-      (λ u.
-      let e = eqb-true (liveOf zs) (capacityOf zs) u in
-      let lacks = eqb-true (find♯ zs m) absent t in
-      rw (f, t, u) (refuses {n = 7} (omega arith) (omega arith) (full (find-lacks zs m slots-small lacks) (sym (own-live xs) ∙ e ∙ own-capacity xs))
-      (insert-full lacks e)))
-      (λ u. rw (f, t, u) (settle-insert (eqb-true (find♯ zs m) absent t) (eqb-false (liveOf zs) (capacityOf zs) u))))
+      (λ t. rw (f, t) (insert-new (eqb-true (find♯ zs m) absent t) (eqb (liveOf zs) (capacityOf zs)) refl))
       (λ u.
       let has = eqb-false (find♯ zs m) absent u in
       rw (f, u) (refuses {n = 8} (omega arith) (omega arith) (present (find-finds zs m slots-small (eqb-false (find♯ zs m) damaged f) has))
