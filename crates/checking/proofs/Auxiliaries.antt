@@ -5,7 +5,8 @@ use mathlib.Core.Bool.{true, false}
 use mathlib.Core.List.{List, _++_}
 use mathlib.Core.Option.{some}
 use native.Mathlib.Omega.{arith}
-use lib.Dec.{eqb}
+use lib.Dec.{ltb, eqb}
+use lib.ListN.{length}
 use borrow.Author.Tests.{eqb-true, eqb-false}
 use Rattle.model.specs.Lists.{if_then_else_, countIf}
 use Rattle.model.specs.Sheet.{belowX, alongX, alongY}
@@ -16,15 +17,16 @@ use Rattle.model.proofs.Logic.{by-cases, clash, not-true-false, both-pass, fail
 use Rattle.model.proofs.Sorted.{sorted-left, sorted-right, sorted-across}
 use Rattle.model.proofs.Orders.{alongX-laws, alongY-laws}
 use Rattle.model.proofs.Tree.{weight-marks, all-least, all-greatest}
-use Rattle.table.specs.Layout.{auxiliaryPlace, levelPlace, recordPlace, deepest}
+use Rattle.table.specs.Layout.{auxiliaryPlace, levelPlace, recordPlace, levelEnd}
+use Rattle.table.specs.Limits.{deepest}
 use Rattle.table.specs.Marks.{slotMark}
 use Rattle.nodes.specs.Arms.{armAt}
 use Rattle.nodes.specs.Holds.{times, Held, CarriesBag}
 use Rattle.nodes.proofs.Held.{in-child}
-use Rattle.twofold.specs.Levels.{deeper}
-use Rattle.twofold.specs.Rules.{SlotAuxiliary, SlotMain, AuxiliaryOf, AuxiliariesOf}
-use Rattle.twofold.specs.TwoFold.{HoldsAuxiliary, HoldsAuxiliaries}
-use Rattle.twofold.proofs.Over.{deeper-level}
+use Rattle.twofold_layout.specs.Levels.{deeper}
+use Rattle.twofold_layout.specs.Rules.{SlotAuxiliary, SlotMain, AuxiliaryOf, AuxiliariesOf}
+use Rattle.twofold_layout.specs.TwoFold.{HoldsAuxiliary, HoldsAuxiliaries}
+use Rattle.twofold_layout.proofs.Over.{deeper-level}
 use Rattle.checking.specs.Slots.{liveSlot♯}
 use Rattle.checking.specs.Span.{anyNode}
 use Rattle.checking.specs.Trees.{auxiliarySlot♯, auxiliarySpan♯, auxiliaryStands♯}
@@ -103,14 +105,16 @@ module _ (C live : ℕ) (xs : List ℕ) where
     stands-pass =
         let a = armAt xs (auxiliaryPlace name) in
         let w = weight l + weight r in
-        let b = both-pass (eqb (a .weight) w) (auxiliarySpan♯ deepest base C live (least l) (greatest r) a xs .sound) e in
+        let walk = auxiliarySpan♯ deepest base C live (least l) (greatest r) a xs .sound in
+        let there = fails-passes (ltb (length xs) (levelEnd base C)) (if eqb (a .weight) w then walk else false) e in
+        let b = both-pass (eqb (a .weight) w) walk (there .1) in
         (eqb-true (a .weight) w (b .0), b .1)
 
-    stands-reads : Reads alongY alongY-laws (recordPlace base) (auxiliarySlot♯ C live (least l) (greatest r) xs) (λ b. b) (λ b name w. anyNode) xs
+    stands-reads : Reads alongY alongY-laws C (recordPlace base) (auxiliarySlot♯ C live (least l) (greatest r) xs) (λ b. b) (λ b name w. anyNode) xs
         (beneath xs) deepest base (armAt xs (auxiliaryPlace name)) (auxiliaryTree xs base name)
     unfolding auxiliarySpan♯
     stands-reads =
-        walk-reads alongY alongY-laws (recordPlace base) (auxiliarySlot♯ C live (least l) (greatest r) xs) (λ b. b) (λ b name w. anyNode) xs
+        walk-reads alongY alongY-laws C (recordPlace base) (auxiliarySlot♯ C live (least l) (greatest r) xs) (λ b. b) (λ b name w. anyNode) xs
         (beneath xs) deepest base (armAt xs (auxiliaryPlace name)) (stands-pass .1)
 
     stands-held : Held alongY (slotMark xs) (recordPlace base) C xs (auxiliaryTree xs base name)

@@ -1,5 +1,5 @@
 -- A sound table passes the check: what the walks ask of a tree holds of the trees that the words hold. Assumes nothing.
-use Prim.Native.Nat.{ℕ, suc, _+_, _≤_, _<_}
+use Prim.Native.Nat.{ℕ, suc, _+_, _-_, _≤_, _<_}
 use mathlib.Core.Path.{_≡_, refl, sym, ap, subst, _∙_}
 use mathlib.Core.Bool.{Bool, true, false}
 use mathlib.Core.List.{List, _++_}
@@ -7,8 +7,9 @@ use mathlib.Core.Option.{Option, none, some, Option·some-injective}
 use native.Mathlib.Omega.{arith}
 use lib.Dec.{ltb}
 use lib.ListN.{length}
-use borrow.Author.Tests.{eq-eqb, ne-eqb, ltb-true}
+use borrow.Author.Tests.{eq-eqb, ne-eqb, ltb-true, le-ltb}
 use Rattle.model.specs.Lists.{if_then_else_}
+use Rattle.model.specs.Sizes.{D, W}
 use Rattle.model.specs.Tree.{Tree, leaf, node, weight, depth, marks, marksOf, least, greatest, Balanced}
 use Rattle.model.specs.Sheet.{Mark, Main, markOutside, alongX, alongY, sheet}
 use Rattle.model.specs.Slots.{slotAxis, slotSpace}
@@ -18,20 +19,22 @@ use Rattle.model.proofs.Lists.{all-left, all-right, all-map, all-both, all-alik
 use Rattle.model.proofs.Orders.{alongX-laws, alongY-laws}
 use Rattle.model.proofs.Sizes.{capacity-small}
 use Rattle.model.proofs.Tree.{weight-marks, weight-pos, none-below, none-above}
-use Rattle.table.specs.Layout.{mainPlace, rootPlace, levelPlace, recordPlace, deepest}
+use Rattle.table.specs.Layout.{mainPlace, rootPlace, levelPlace, recordPlace, levelEnd}
+use Rattle.table.specs.Limits.{deepest}
 use Rattle.table.specs.Marks.{slotMark}
 use Rattle.nodes.specs.Arms.{armAt}
 use Rattle.nodes.specs.Holds.{armOf, timesIn, Held}
-use Rattle.nodes.proofs.Held.{held-weight, all-times}
-use Rattle.nodes.proofs.Levels.{held-shallow}
-use Rattle.twofold.specs.Levels.{topLevel, deeper}
-use Rattle.twofold.specs.Rules.{SlotAuxiliary, SlotMain, AuxiliaryOf, ByRules}
-use Rattle.twofold.specs.TwoFold.{HoldsAuxiliary, TwoFold}
-use Rattle.twofold.specs.Sound.{capacityOf, liveOf, placeAt, HoldsTree, TreeByRules, EachOnce, Holding}
-use Rattle.twofold.proofs.Rules.{slotSameness, slotX-laws, rules-left, rules-right}
-use Rattle.twofold.proofs.Over.{two-left, two-right, top-level, deeper-level}
-use Rattle.twofold.proofs.Stands.{stands-marks}
-use Rattle.twofold.proofs.Sound.{live-slots}
+use Rattle.nodes.proofs.Held.{held-weight, held-least, all-times}
+use Rattle.nodes.proofs.Levels.{most-levels, held-depth, held-shallow}
+use Rattle.twofold_layout.specs.Levels.{topLevel, deeper}
+use Rattle.twofold_layout.specs.Rules.{SlotAuxiliary, SlotMain, AuxiliaryOf, ByRules}
+use Rattle.twofold_layout.specs.TwoFold.{HoldsAuxiliary, TwoFold}
+use Rattle.twofold_layout.specs.Sound.{placeAt, HoldsTree, TreeByRules, EachOnce, Holding}
+use Rattle.table.specs.Header.{capacityOf, liveOf}
+use Rattle.twofold_layout.proofs.Rules.{slotSameness, slotX-laws, rules-left, rules-right}
+use Rattle.twofold_layout.proofs.Over.{two-left, two-right, two-level, top-level, deeper-level}
+use Rattle.twofold_layout.proofs.Stands.{stands-marks}
+use Rattle.twofold_layout.proofs.Sound.{live-slots}
 use Rattle.checking.specs.Slots.{liveSlot♯}
 use Rattle.checking.specs.Span.{anyNode}
 use Rattle.checking.specs.Trees.{auxiliarySlot♯, auxiliarySpan♯, auxiliaryStands♯, mainSlot♯, mainSpan♯}
@@ -60,9 +63,9 @@ module _ (xs : List ℕ) where
   abbrev Live : List ℕ → Type 0
   Live l = All (λ s. liveSlot♯ C n xs s ≡ true) l
 
-  -- a live slot is far below 2^31, whatever else is asked of it
-  live-small : C ≤ 65536 → (s : ℕ) (rest : Bool) → (if liveSlot♯ C n xs s then rest else false) ≡ true → s < 2147483648
-  live-small small s rest e = omega (arith, live-slot C xs n s (both-pass (liveSlot♯ C n xs s) rest e .0) .0)
+  -- a live slot is one of the table, whatever else is asked of it
+  live-below : (s : ℕ) (rest : Bool) → (if liveSlot♯ C n xs s then rest else false) ≡ true → s < C
+  live-below s rest e = live-slot C xs n s (both-pass (liveSlot♯ C n xs s) rest e .0) .0
 
   -- the slots of a main node pass the test of its auxiliary tree's slots
   auxiliary-slots : (t : SlotMain) → Sorted (slotAxis f alongX) (marks t) → Live (marks t)
@@ -72,7 +75,7 @@ module _ (xs : List ℕ) where
       let high = none-above (slotSpace f sheet) (slotSameness f) (slotAxis f alongX) (slotX-laws f) t sorted in
       all-map (λ s h. slot-auxiliary C n xs (least t) (greatest t) s (h .0) (h .1 .0) (h .1 .1)) (all-both live (all-both low high))
 
-  module _ (small : C ≤ 65536) where
+  module _ (small : C ≤ 65536) (long : length xs ≡ W C) where
     -- the walk through an auxiliary tree of depth d
     auxiliary-walk : (d first last : ℕ) (u : Tree ℕ (List ℕ)) → Sorted (slotAxis f alongY) (marks u) → Balanced u
         → All (λ s. auxiliarySlot♯ C n first last xs s ≡ true) (marks u) → Held alongY f (recordPlace (levelPlace C d)) C xs u
@@ -80,32 +83,34 @@ module _ (xs : List ℕ) where
     unfolding auxiliarySpan♯ auxiliarySlot♯
     auxiliary-walk d first last u sorted balanced slots held =
         ap (λ s. s .sound)
-        (walk-passes alongY alongY-laws (recordPlace (levelPlace C d)) (auxiliarySlot♯ C n first last xs) (λ b. b) (λ b name w. anyNode) xs
-        (λ s e. live-small small s _ e) deepest (levelPlace C d) u (omega (arith, held-shallow held balanced small)) (omega (arith, held-weight held))
+        (walk-passes alongY alongY-laws C (recordPlace (levelPlace C d)) (auxiliarySlot♯ C n first last xs) (λ b. b) (λ b name w. anyNode) xs
+        small (λ s e. live-below s _ e) deepest (levelPlace C d) u (omega (arith, held-shallow held balanced small)) (omega (arith, held-weight held))
         (record { sorted = sorted; balanced = balanced; slots = slots; records = held .records; tested = any-tested (levelPlace C d) u }))
 
     -- an inner main node's auxiliary tree
-    auxiliary-stands : (d : ℕ) (i : SlotAuxiliary) (l r : SlotMain) → Sorted (slotAxis f alongX) (marks l ++ marks r) → Live (marks l ++ marks r)
+    auxiliary-stands : (d : ℕ) → d < D C → (i : SlotAuxiliary) (l r : SlotMain) → Sorted (slotAxis f alongX) (marks l ++ marks r) → Live (marks l ++ marks r)
         → HoldsAuxiliary f C d (least r) xs i → AuxiliaryOf f (marks l ++ marks r) i
         → auxiliaryStands♯ C n xs (levelPlace C d) (least r) (weight l + weight r) (least l) (greatest r) ≡ true
     unfolding auxiliaryStands♯
-    auxiliary-stands d i l r sorted live h a =
+    auxiliary-stands d low i l r sorted live h a =
         let u : Tree ℕ (List ℕ) = h .tree in
         let e : a .tree ≡ u = Option·some-injective (a .tree) u (sym (a .is) ∙ h .is) in
         let bag : SameBag (marks u) (marks l ++ marks r) = subst (λ t. SameBag (marks t) (marks l ++ marks r)) e (a .bag) in
         let many : weight u ≡ weight l + weight r = weight-marks u ∙ sameBag-length (marks u) (marks l ++ marks r) bag ∙ sym (weight-marks (node i l r)) in
-        rw (h .arm, eq-eqb (weight u) (weight l + weight r) many)
+        let there : levelEnd (levelPlace C d) C ≤ length xs =
+        omega (arith, two-level C d (length xs) small low long .room (C - 1) (omega (arith, held-least (h .held)))) in
+        rw (le-ltb (length xs) (levelEnd (levelPlace C d) C) there, h .arm, eq-eqb (weight u) (weight l + weight r) many)
         (auxiliary-walk d (least l) (greatest r) u (subst (λ t. Sorted (slotAxis f alongY) (marks t)) e (a .sorted)) (subst Balanced e (a .balanced))
         (all-alike (auxiliarySlot♯ C n (least l) (greatest r) xs) (marks l ++ marks r) (marks u) (λ p. sym (bag p)) (auxiliary-slots (node i l r) sorted live))
         (h .held))
 
     -- the nodes of a main tree whose root is at depth d
-    main-tested : (d : ℕ) (t : SlotMain) → d + depth t ≤ 40 → Live (marks t) → TwoFold f C d xs t → ByRules f t
+    main-tested : (d : ℕ) (t : SlotMain) → d + depth t ≤ D C → Live (marks t) → TwoFold f C d xs t → ByRules f t
         → Tested (λ b. deeper b C) (auxiliaryStands♯ C n xs) (levelPlace C d) t
     main-tested d (leaf s) low live h k = tt
     main-tested d (node i l r) low live h k =
-        let e : deeper (levelPlace C d) C ≡ levelPlace C (suc d) = deeper-level C d small (omega arith) in (
-          auxiliary-stands d i l r (k .sorted) live (h .auxiliaries .0) (k .auxiliaries .0),
+        let e : deeper (levelPlace C d) C ≡ levelPlace C (suc d) = deeper-level C d small (omega (arith, most-levels C small)) in (
+          auxiliary-stands d (omega arith) i l r (k .sorted) live (h .auxiliaries .0) (k .auxiliaries .0),
           rw e (main-tested (suc d) l (omega arith) (all-left (marks l) (marks r) live) (two-left h) (rules-left f k)),
           rw e (main-tested (suc d) r (omega arith) (all-right (marks l) (marks r) live) (two-right h) (rules-right f k)),
         )
@@ -118,14 +123,14 @@ module _ (xs : List ℕ) where
         let shallow : depth t ≤ 38 = held-shallow (h .main) (k .balanced) small in
         rw (top-level C small)
         (ap (λ s. s .sound)
-        (walk-passes alongX alongX-laws mainPlace (mainSlot♯ C n xs) (λ b. deeper b C) (auxiliaryStands♯ C n xs) xs
-        (λ s e. live-small small s _ e) deepest (levelPlace C 0) t (omega arith) (omega (arith, held-weight (h .main)))
+        (walk-passes alongX alongX-laws C mainPlace (mainSlot♯ C n xs) (λ b. deeper b C) (auxiliaryStands♯ C n xs) xs
+        small (λ s e. live-below s _ e) deepest (levelPlace C 0) t (omega arith) (omega (arith, held-weight (h .main)))
         (record {
           sorted = k .sorted;
           balanced = k .balanced;
           slots = all-map (λ s e. rw (e .0, e .1)) (all-both live inside);
           records = h .main .records;
-          tested = main-tested 0 t (omega arith) live h k;
+          tested = main-tested 0 t (omega (arith, held-depth (h .main) (k .balanced))) live h k;
         })))
 
   -- the slots of the tree are live
@@ -138,14 +143,14 @@ module _ (xs : List ℕ) where
       (λ u. absurd (let w = (rw u at (e .live s (within s k))) in omega arith))))
 
   -- the root, with or without a tree
-  root-stands : C ≤ 65536 → (o : Option SlotMain) → HoldsTree xs o → TreeByRules xs o → All (λ s. markOutside (f s) ≡ false) (marksOf o)
+  root-stands : C ≤ 65536 → length xs ≡ W C → (o : Option SlotMain) → HoldsTree xs o → TreeByRules xs o → All (λ s. markOutside (f s) ≡ false) (marksOf o)
       → n ≡ length (marksOf o) → EachOnce xs o → rootStands C n (armAt xs rootPlace) xs ≡ true
   unfolding rootStands
-  root-stands small none h k inside many free = rw (h, many)
-  root-stands small (some t) h k inside many free =
+  root-stands small long none h k inside many free = rw (h, many)
+  root-stands small long (some t) h k inside many free =
       let w : weight t ≡ n = weight-marks t ∙ sym many in
       rw (h .0, eq-eqb (weight t) n w, ne-eqb n 0 (omega (arith, weight-pos t)))
-      (main-walk small t (tree-live t (h .1 .main .within) free) inside (h .1) k)
+      (main-walk small long t (tree-live t (h .1 .main .within) free) inside (h .1) k)
 
 -- a sound table passes
 pub holding-tree : (xs : List ℕ) (T : Main) → Holding xs T → soundTree♯ (capacityOf xs) (liveOf xs) xs ≡ true
@@ -155,4 +160,4 @@ holding-tree xs T h =
     all-unmapped (slotMark xs) (marksOf (h .slots))
     (subst (All (λ m. markOutside m ≡ false)) (ap (λ T. marksOf T) (sym (h .stands)) ∙ stands-marks (slotMark xs) (h .slots)) (h .coordinates)) in
     rw (inverse-complete (capacityOf xs) xs (h .free .used))
-    (root-stands xs (capacity-small (capacityOf xs) (h .capacity)) (h .slots) (h .holds) (h .rules) inside (live-slots h) (h .free))
+    (root-stands xs (capacity-small (capacityOf xs) (h .capacity)) (h .long) (h .slots) (h .holds) (h .rules) inside (live-slots h) (h .free))

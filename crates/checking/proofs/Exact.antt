@@ -11,13 +11,13 @@ use Rattle.model.specs.Tree.{marksOf}
 use Rattle.model.specs.Sheet.{Main}
 use Rattle.model.proofs.Logic.{by-cases}
 use Rattle.model.proofs.Sizes.{capacity-small}
-use Rattle.table.specs.Layout.{damaged}
-use Rattle.twofold.specs.Sound.{capacityOf, liveOf, Holding, SoundTable}
-use Rattle.twofold.proofs.Sound.{live-within}
-use Rattle.checking.specs.Header.{ownWords}
+use Rattle.table.specs.Limits.{damaged}
+use Rattle.twofold_layout.specs.Sound.{Holding, SoundTable}
+use Rattle.table.specs.Header.{capacityOf, liveOf, ownWords}
+use Rattle.twofold_layout.proofs.Sound.{live-within}
 use Rattle.checking.specs.Verdict.{Verdict, sound, unsound}
 use Rattle.checking.specs.Check.{soundTree♯, live♯}
-use Rattle.checking.proofs.Own.{own-table, table-own}
+use Rattle.table.proofs.Own.{own-table, table-own}
 use Rattle.checking.proofs.Sound.{tree-holding}
 use Rattle.checking.proofs.Complete.{holding-tree}
 

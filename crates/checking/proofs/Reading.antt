@@ -1,11 +1,11 @@
 -- A walk through a tree that ends well has read a tree that it passes, and it passes every such tree. Assumes nothing.
-use Prim.Native.Nat.{ℕ, zero, suc, _+_, _*_, _/_, _%_, _<_}
+use Prim.Native.Nat.{ℕ, zero, suc, _+_, _*_, _/_, _%_, _≤_, _<_}
 use mathlib.Core.Path.{_≡_, refl, sym, ap, _∙_}
 use mathlib.Core.Bool.{Bool, true, false}
 use mathlib.Core.List.{List}
 use native.Mathlib.Omega.{arith}
-use lib.Dec.{eqb}
-use borrow.Author.Tests.{eqb-true, eqb-false, eq-eqb, ne-eqb}
+use lib.Dec.{leb, eqb}
+use borrow.Author.Tests.{lt-leb, eqb-true, eqb-false, eq-eqb, ne-eqb}
 use Rattle.model.specs.Lists.{if_then_else_}
 use Rattle.model.specs.Axis.{Axis}
 use Rattle.model.specs.Sheet.{Mark, Box, sheet}
@@ -19,7 +19,7 @@ use Rattle.model.proofs.Tree.{all-least, all-greatest, sorted-over}
 use Rattle.model.proofs.Orders.{sheet-sameness}
 use Rattle.model.proofs.Slots.{slotSpace-sameness, slotAxis-laws}
 use Rattle.table.specs.Marks.{slotMark}
-use Rattle.table.specs.Weights.{sum}
+use Rattle.nodes.specs.Weights.{sum}
 use Rattle.nodes.specs.Arms.{Arm, arm, arms, leafNumber, innerNumber, leafArm, overArm, Record, recordAt}
 use Rattle.nodes.specs.Holds.{armOf}
 use Rattle.checking.specs.Span.{Span, span, noSpan, sameArm, fits♯, joins♯, NodeTest, spanLeaf, spanOver, spanNode, spanStep, treeSpan}
@@ -35,22 +35,18 @@ all-span true true false d x e = clash e refl
 all-span true false c d x e = clash e refl
 all-span false b c d x e = clash e refl
 
-module _ (A : Axis Mark Box) (O : AxisLaws sheet A) (place : ℕ → ℕ) (slot : ℕ → Bool) (next : ℕ → ℕ) (test : ℕ → ℕ → ℕ → NodeTest) (xs : List ℕ) where
+module _ (A : Axis Mark Box) (O : AxisLaws sheet A) (C : ℕ) (place : ℕ → ℕ) (slot : ℕ → Bool) (next : ℕ → ℕ) (test : ℕ → ℕ → ℕ → NodeTest) (xs : List ℕ) where
   -- a step of the walk at a leaf
-  leaf-sound : (a : Arm) → spanLeaf A slot a xs .sound ≡ true → (slot (a .node / 2) ≡ true) × (a ≡ leafArm (a .node / 2) (A .at (slotMark xs (a .node / 2))))
+  leaf-sound : (s : ℕ) (a : Arm) → spanLeaf A slot s a xs .sound ≡ true → (slot s ≡ true) × (a ≡ leafArm s (A .at (slotMark xs s)))
   unfolding spanLeaf
-  leaf-sound a e =
-      let s : ℕ = a .node / 2 in
+  leaf-sound s a e =
       let q : Arm = leafArm s (A .at (slotMark xs s)) in
       let p = all-span true true (slot s) (sameArm a q) (span s s) e in
       (p .2, same-arm a q (p .3))
 
-  leaf-complete : (a : Arm) → slot (a .node / 2) ≡ true → a ≡ leafArm (a .node / 2) (A .at (slotMark xs (a .node / 2)))
-      → spanLeaf A slot a xs ≡ span (a .node / 2) (a .node / 2)
+  leaf-complete : (s : ℕ) (a : Arm) → slot s ≡ true → a ≡ leafArm s (A .at (slotMark xs s)) → spanLeaf A slot s a xs ≡ span s s
   unfolding spanLeaf
-  leaf-complete a t e =
-      let s : ℕ = a .node / 2 in
-      rw (t, arm-same a (leafArm s (A .at (slotMark xs s))) e)
+  leaf-complete s a t e = rw (t, arm-same a (leafArm s (A .at (slotMark xs s))) e)
 
   -- and at an inner node, given what the walks through its children came to
   record Passes (base name : ℕ) (a : Arm) (p : Record) (x y : Span) : Type 0 where
@@ -62,7 +58,7 @@ module _ (A : Axis Mark Box) (O : AxisLaws sheet A) (place : ℕ → ℕ) (slot 
     tested : test base name (a .weight) (x .first) (y .last) ≡ true
 
   module _ (rec : ℕ → Arm → Span) (base name : ℕ) (a : Arm) (p : Record) where
-    node-sound : spanNode A place slot next test rec base name a p xs .sound ≡ true
+    node-sound : spanNode A C place slot next test rec base name a p xs .sound ≡ true
         → Passes base name a p (rec (next base) (p .left)) (rec (next base) (p .right))
     unfolding spanNode spanOver joins♯
     node-sound e =
@@ -81,7 +77,7 @@ module _ (A : Axis Mark Box) (O : AxisLaws sheet A) (place : ℕ → ℕ) (slot 
         }
 
     node-complete : Passes base name a p (rec (next base) (p .left)) (rec (next base) (p .right))
-        → spanNode A place slot next test rec base name a p xs ≡ span (rec (next base) (p .left) .first) (rec (next base) (p .right) .last)
+        → spanNode A C place slot next test rec base name a p xs ≡ span (rec (next base) (p .left) .first) (rec (next base) (p .right) .last)
     unfolding spanNode spanOver joins♯
     node-complete h =
         let named : eqb (rec (next base) (p .right) .first) name ≡ true = eq-eqb (rec (next base) (p .right) .first) name (h .named) in
@@ -91,19 +87,19 @@ module _ (A : Axis Mark Box) (O : AxisLaws sheet A) (place : ℕ → ℕ) (slot 
   pub record Reads {I : Type 0} (carry : ℕ → ℕ → Tree ℕ I → Tree ℕ I → I) (n base : ℕ) (a : Arm) (t : Tree ℕ I) : Type 0 where
     pub walked : Walked A place slot next test xs base t
     pub arm : a ≡ armOf A (slotMark xs) t
-    pub first : treeSpan A place slot next test n xs base a .first ≡ least t
-    pub last : treeSpan A place slot next test n xs base a .last ≡ greatest t
+    pub first : treeSpan A C place slot next test n xs base a .first ≡ least t
+    pub last : treeSpan A C place slot next test n xs base a .last ≡ greatest t
     pub carried : Carried next carry base t
 
   -- reading a leaf, and an inner node whose children were read
-  read-leaf : {I : Type 0} (carry : ℕ → ℕ → Tree ℕ I → Tree ℕ I → I) (n base : ℕ) (a : Arm) → eqb (a .node % 2) 0 ≡ true
-      → treeSpan A place slot next test (suc n) xs base a .sound ≡ true → Reads carry (suc n) base a (leaf (a .node / 2))
+  read-leaf : {I : Type 0} (carry : ℕ → ℕ → Tree ℕ I → Tree ℕ I → I) (n base : ℕ) (a : Arm) → leb C (a .node / 2) ≡ false
+      → eqb (a .node % 2) 0 ≡ true → treeSpan A C place slot next test (suc n) xs base a .sound ≡ true → Reads carry (suc n) base a (leaf (a .node / 2))
   unfolding treeSpan spanStep leafArm
-  read-leaf carry n base a even e =
+  read-leaf carry n base a inside even e =
       let s : ℕ = a .node / 2 in
-      let h = leaf-sound a (rw even at e) in
+      let h = leaf-sound s a (rw (inside, even) at e) in
       let number : a .node ≡ 2 * s = omega (arith, eqb-true (a .node % 2) 0 even) in
-      let ends : treeSpan A place slot next test (suc n) xs base a ≡ span s s = rw even (leaf-complete a (h .0) (h .1)) in
+      let ends : treeSpan A C place slot next test (suc n) xs base a ≡ span s s = rw (inside, even) (leaf-complete s a (h .0) (h .1)) in
       record {
         walked = record { sorted = sorted∷ nil sorted[]; balanced = tt; slots = cons (h .0) nil; records = tt; tested = tt };
         arm = λ i. record { node = number i; weight = h .1 i .weight; least = h .1 i .least; greatest = h .1 i .greatest };
@@ -112,12 +108,13 @@ module _ (A : Axis Mark Box) (O : AxisLaws sheet A) (place : ℕ → ℕ) (slot 
         carried = tt;
       }
 
-  module _ {I : Type 0} (carry : ℕ → ℕ → Tree ℕ I → Tree ℕ I → I) (n base : ℕ) (a : Arm) (odd : eqb (a .node % 2) 0 ≡ false) where
+  module _ {I : Type 0} (carry : ℕ → ℕ → Tree ℕ I → Tree ℕ I → I) (n base : ℕ) (a : Arm) (inside : leb C (a .node / 2) ≡ false)
+      (odd : eqb (a .node % 2) 0 ≡ false) where
     abbrev own : Record
     own = recordAt xs (place (a .node / 2))
 
     abbrev child : Arm → Span
-    child q = treeSpan A place slot next test n xs (next base) q
+    child q = treeSpan A C place slot next test n xs (next base) q
 
     read-over : (l r : Tree ℕ I) → Passes base (a .node / 2) a own (child (own .left)) (child (own .right))
         → Reads carry n (next base) (own .left) l → Reads carry n (next base) (own .right) r
@@ -134,8 +131,8 @@ module _ (A : Axis Mark Box) (O : AxisLaws sheet A) (place : ℕ → ℕ) (slot 
         let lo : a .least ≡ A .at (f (least l)) = ap (λ q. q .least) (h .fits .over) ∙ ap (λ q. q .least) (hl .arm) in
         let hi : a .greatest ≡ A .at (f (greatest r)) = ap (λ q. q .greatest) (h .fits .over) ∙ ap (λ q. q .greatest) (hr .arm) in
         let kept : own ≡ arms (armOf A f l) (armOf A f r) = λ i. record { left = hl .arm i; right = hr .arm i } in
-        let ends : treeSpan A place slot next test (suc n) xs base a ≡ span (child (own .left) .first) (child (own .right) .last) =
-        rw odd (node-complete (treeSpan A place slot next test n xs) base name a own h) in
+        let ends : treeSpan A C place slot next test (suc n) xs base a ≡ span (child (own .left) .first) (child (own .right) .last) =
+        rw (inside, odd) (node-complete (treeSpan A C place slot next test n xs) base name a own h) in
         record {
           walked = record {
             sorted =
@@ -154,18 +151,22 @@ module _ (A : Axis Mark Box) (O : AxisLaws sheet A) (place : ℕ → ℕ) (slot 
         }
 
   pub walk-reads : {I : Type 0} (carry : ℕ → ℕ → Tree ℕ I → Tree ℕ I → I) (n base : ℕ) (a : Arm)
-      → treeSpan A place slot next test n xs base a .sound ≡ true → Reads carry n base a (readTree place next carry xs n base a)
+      → treeSpan A C place slot next test n xs base a .sound ≡ true → Reads carry n base a (readTree place next carry xs n base a)
   unfolding treeSpan spanStep readTree
   walk-reads carry zero base a e = clash e refl
   walk-reads carry (suc n) base a e =
-      by-cases (eqb (a .node % 2) 0)
-      (λ even. rw even (read-leaf carry n base a even e))
+      by-cases (leb C (a .node / 2))
+      (λ t. clash e (rw t))
+      (λ inside. by-cases (eqb (a .node % 2) 0)
+      (λ even. rw even (read-leaf carry n base a inside even e))
       (λ odd.
       let p : Record = recordAt xs (place (a .node / 2)) in
       let l = readTree place next carry xs n (next base) (p .left) in
       let r = readTree place next carry xs n (next base) (p .right) in
-      let h = node-sound (treeSpan A place slot next test n xs) base (a .node / 2) a p (rw odd at e) in
-      rw odd (read-over carry n base a odd l r h (walk-reads carry n (next base) (p .left) (h .left)) (walk-reads carry n (next base) (p .right) (h .right))))
+      let h = node-sound (treeSpan A C place slot next test n xs) base (a .node / 2) a p (rw (inside, odd) at e) in
+      rw odd
+      (read-over carry n base a inside odd l r h
+      (walk-reads carry n (next base) (p .left) (h .left)) (walk-reads carry n (next base) (p .right) (h .right)))))
 
   -- the children of a tree that the walk passes
   module _ {I : Type 0} {base : ℕ} {i : I} {l r : Tree ℕ I} (w : Walked A place slot next test xs base (node i l r)) where
@@ -188,31 +189,32 @@ module _ (A : Axis Mark Box) (O : AxisLaws sheet A) (place : ℕ → ℕ) (slot 
     }
 
   -- passing a leaf, and an inner node whose children were passed: the arms are right where no slot's number and no weight goes round
-  pass-leaf : (n base s : ℕ) → s < 2147483648 → slot s ≡ true
-      → treeSpan A place slot next test (suc n) xs base (arm (2 * s) 1 (A .at (slotMark xs s)) (A .at (slotMark xs s))) ≡ span s s
+  pass-leaf : (n base s : ℕ) → C ≤ 65536 → s < C → slot s ≡ true
+      → treeSpan A C place slot next test (suc n) xs base (arm (2 * s) 1 (A .at (slotMark xs s)) (A .at (slotMark xs s))) ≡ span s s
   unfolding treeSpan spanStep leafArm leafNumber
-  pass-leaf n base s small live =
+  pass-leaf n base s small inside live =
       let a : Arm = arm (2 * s) 1 (A .at (slotMark xs s)) (A .at (slotMark xs s)) in
       let even : eqb ((2 * s) % 2) 0 ≡ true = eq-eqb ((2 * s) % 2) 0 (omega arith) in
       let half : (2 * s) / 2 ≡ s = omega arith in
       let kept : s % 2147483648 ≡ s = omega arith in
-      rw (even, leaf-complete a (rw half live) (rw (half, kept)), half)
+      rw (half, lt-leb C s inside, even) (leaf-complete s a live (rw kept))
 
-  module _ {I : Type 0} (small : (s : ℕ) → slot s ≡ true → s < 2147483648) where
+  module _ {I : Type 0} (small : C ≤ 65536) (below : (s : ℕ) → slot s ≡ true → s < C) where
     pass-over : (n base : ℕ) (i : I) (l r : Tree ℕ I) → weight l + weight r < 4294967296 → Walked A place slot next test xs base (node i l r)
-        → treeSpan A place slot next test n xs (next base) (armOf A (slotMark xs) l) ≡ span (least l) (greatest l)
-        → treeSpan A place slot next test n xs (next base) (armOf A (slotMark xs) r) ≡ span (least r) (greatest r)
-        → treeSpan A place slot next test (suc n) xs base (armOf A (slotMark xs) (node i l r)) ≡ span (least l) (greatest r)
+        → treeSpan A C place slot next test n xs (next base) (armOf A (slotMark xs) l) ≡ span (least l) (greatest l)
+        → treeSpan A C place slot next test n xs (next base) (armOf A (slotMark xs) r) ≡ span (least r) (greatest r)
+        → treeSpan A C place slot next test (suc n) xs base (armOf A (slotMark xs) (node i l r)) ≡ span (least l) (greatest r)
     unfolding treeSpan spanStep overArm innerNumber sum
     pass-over n base i l r light w left right =
         let f : ℕ → Mark = slotMark xs in
         let name : ℕ = least r in
         let a : Arm = armOf A f (node i l r) in
         let p : Record = arms (armOf A f l) (armOf A f r) in
-        let rec : ℕ → Arm → Span = treeSpan A place slot next test n xs in
+        let rec : ℕ → Arm → Span = treeSpan A C place slot next test n xs in
         let odd : eqb ((2 * name + 1) % 2) 0 ≡ false = ne-eqb ((2 * name + 1) % 2) 0 (omega arith) in
         let half : (2 * name + 1) / 2 ≡ name = omega arith in
-        let kept : name % 2147483648 ≡ name = omega (arith, small name (all-least r (all-right (marks l) (marks r) (w .slots)))) in
+        let inside : name < C = below name (all-least r (all-right (marks l) (marks r) (w .slots))) in
+        let kept : name % 2147483648 ≡ name = omega arith in
         let added : (weight l + weight r) % 4294967296 ≡ weight l + weight r = omega arith in
         let h : Passes base name a p (rec (next base) (p .left)) (rec (next base) (p .right)) = record {
           fits = record { weights = refl; evenLeft = w .balanced .0; evenRight = w .balanced .1; over = rw (kept, added) };
@@ -222,14 +224,14 @@ module _ (A : Axis Mark Box) (O : AxisLaws sheet A) (place : ℕ → ℕ) (slot 
           follows = rw left (all-least r (all-greatest l (sorted-across (marks l) (marks r) (w .sorted))));
           tested = rw (left, right) (w .tested .0);
         } in
-        rw (odd, half, w .records .0, node-complete rec base name a p h, left, right)
+        rw (half, lt-leb C name inside, odd, w .records .0, node-complete rec base name a p h, left, right)
 
     pub walk-passes : (n base : ℕ) (t : Tree ℕ I) → depth t < n → weight t < 4294967296 → Walked A place slot next test xs base t
-        → treeSpan A place slot next test n xs base (armOf A (slotMark xs) t) ≡ span (least t) (greatest t)
+        → treeSpan A C place slot next test n xs base (armOf A (slotMark xs) t) ≡ span (least t) (greatest t)
     walk-passes zero base t deep light w = absurd (omega arith)
     walk-passes (suc n) base (leaf s) deep light w =
         let live : slot s ≡ true = all-least {I = I} (leaf s) (w .slots) in
-        pass-leaf n base s (small s live) live
+        pass-leaf n base s small (below s live) live
     walk-passes (suc n) base (node i l r) deep light w =
         pass-over n base i l r light w
         (walk-passes n (next base) l (omega arith) (omega arith) (walked-left w))

@@ -18,17 +18,19 @@ use Rattle.model.proofs.Lists.{all-map, all-mapped}
 use Rattle.model.proofs.Orders.{alongX-laws}
 use Rattle.model.proofs.Sizes.{capacity-small}
 use Rattle.model.proofs.Tree.{weight-marks}
-use Rattle.table.specs.Layout.{openPlace, mainPlace, rootPlace, deepest}
+use Rattle.table.specs.Layout.{openPlace, mainPlace, rootPlace}
+use Rattle.table.specs.Limits.{deepest}
 use Rattle.table.specs.Marks.{slotMark}
 use Rattle.nodes.specs.Arms.{armAt}
 use Rattle.nodes.specs.Holds.{timesIn, Held}
 use Rattle.nodes.proofs.Levels.{held-shallow}
-use Rattle.twofold.specs.Levels.{topLevel, deeper}
-use Rattle.twofold.specs.Rules.{SlotAuxiliary, SlotMain, AuxiliariesOf, marksMain}
-use Rattle.twofold.specs.TwoFold.{HoldsAuxiliaries}
-use Rattle.twofold.specs.Sound.{capacityOf, liveOf, placeAt, EachOnce, Holding}
-use Rattle.twofold.proofs.Over.{top-level}
-use Rattle.twofold.proofs.Stands.{stands-marks}
+use Rattle.twofold_layout.specs.Levels.{topLevel, deeper}
+use Rattle.twofold_layout.specs.Rules.{SlotAuxiliary, SlotMain, AuxiliariesOf, marksMain}
+use Rattle.twofold_layout.specs.TwoFold.{HoldsAuxiliaries}
+use Rattle.twofold_layout.specs.Sound.{placeAt, EachOnce, Holding}
+use Rattle.table.specs.Header.{capacityOf, liveOf}
+use Rattle.twofold_layout.proofs.Over.{top-level}
+use Rattle.twofold_layout.proofs.Stands.{stands-marks}
 use Rattle.checking.specs.Slots.{liveSlot♯, inverse♯}
 use Rattle.checking.specs.Trees.{auxiliaryStands♯, mainSlot♯, mainSpan♯}
 use Rattle.checking.specs.Check.{rootStands, soundTree♯}
@@ -85,11 +87,11 @@ module _ (xs : List ℕ) where
     }
 
     module _ (e : mainSpan♯ deepest (topLevel C) C n (armAt xs rootPlace) xs .sound ≡ true) where
-      main-reads : Reads alongX alongX-laws mainPlace (mainSlot♯ C n xs) (λ b. deeper b C) (auxiliaryStands♯ C n xs) xs
+      main-reads : Reads alongX alongX-laws C mainPlace (mainSlot♯ C n xs) (λ b. deeper b C) (auxiliaryStands♯ C n xs) xs
           (carry xs) deepest (topLevel C) (armAt xs rootPlace) (mainTree xs)
       unfolding mainSpan♯
       main-reads =
-          walk-reads alongX alongX-laws mainPlace (mainSlot♯ C n xs) (λ b. deeper b C) (auxiliaryStands♯ C n xs) xs
+          walk-reads alongX alongX-laws C mainPlace (mainSlot♯ C n xs) (λ b. deeper b C) (auxiliaryStands♯ C n xs) xs
           (carry xs) deepest (topLevel C) (armAt xs rootPlace) e
 
       main-held : Held alongX (slotMark xs) mainPlace C xs (mainTree xs)

@@ -11,15 +11,16 @@ use Rattle.model.specs.Lists.{if_then_else_}
 use Rattle.model.specs.Sizes.{D}
 use Rattle.model.proofs.Logic.{by-cases}
 use Rattle.model.proofs.Sizes.{deep-step, D-holds, D-largest}
-use Rattle.table.specs.Layout.{mainPlace, auxiliaryPlace, recordPlace, deepest}
+use Rattle.table.specs.Layout.{mainPlace, auxiliaryPlace, recordPlace}
+use Rattle.table.specs.Limits.{deepest}
 use Rattle.nodes.specs.Arms.{Arm, Record, armAt, recordAt}
-use Rattle.twofold.specs.Levels.{deeper}
+use Rattle.twofold_layout.specs.Levels.{deeper}
 use Rattle.checking.specs.Span.{fits♯}
 use Rattle.checking.proofs.Comparing.{Fits, fits-sound}
 
 module _ (place : ℕ → ℕ) (next : ℕ → ℕ) (more : ℕ → Arm → ℕ) (xs : List ℕ) where
   -- The nodes that a walk of n levels at most comes to, with those that it comes to beside at an inner node whose arm fits. (Of that only the most is
-  -- counted: the walk makes the test at a node only where its children are sound.)
+  -- counted: the walk makes the test at a node only where its children are sound, and ends where a name is no slot or a level is not there.)
   unfoldable pub steps : ℕ → ℕ → Arm → ℕ
   steps zero base a = 1
   steps (suc n) base a =

@@ -16,7 +16,7 @@ use Rattle.model.proofs.Orders.{sheet-sameness}
 use Rattle.model.proofs.Slots.{slotAxis-laws}
 use Rattle.table.specs.Marks.{slotMark}
 use Rattle.nodes.specs.Holds.{timesIn, Held}
-use Rattle.twofold.proofs.Rules.{slotSameness, slotX-laws, times-pass}
+use Rattle.twofold_layout.proofs.Rules.{slotSameness, slotX-laws, times-pass}
 use Rattle.checking.specs.Span.{NodeTest}
 use Rattle.checking.proofs.Walked.{Walked}
 

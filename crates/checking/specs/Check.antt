@@ -5,10 +5,11 @@ use mathlib.Core.List.{List}
 use lib.Dec.{ltb, eqb}
 use lib.ListN.{length, getD}
 use Rattle.model.specs.Lists.{if_then_else_}
-use Rattle.table.specs.Layout.{capacityPlace, livePlace, rootPlace, deepest, damaged}
+use Rattle.table.specs.Layout.{capacityPlace, livePlace, rootPlace}
+use Rattle.table.specs.Limits.{deepest, damaged}
 use Rattle.nodes.specs.Arms.{Arm, armAt}
-use Rattle.twofold.specs.Levels.{topLevel}
-use Rattle.checking.specs.Header.{ownWords}
+use Rattle.twofold_layout.specs.Levels.{topLevel}
+use Rattle.table.specs.Header.{ownWords}
 use Rattle.checking.specs.Slots.{inverse♯}
 use Rattle.checking.specs.Trees.{mainSpan♯}
 

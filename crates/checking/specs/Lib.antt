@@ -1,6 +1,5 @@
--- `Header` and `Verdict` are what the check says, for readers. The others are mirrors: what the functions of src/ give, on lists and numbers, step by step;
+-- `Verdict` is what the check says, for readers. The others are mirrors: what the functions of src/ give, on lists and numbers, step by step;
 -- what they mean is in proofs/.
-pub mod Header
 pub mod Verdict
 pub mod Slots
 pub mod Span

@@ -1,5 +1,5 @@
 -- The mirror of the walk through a tree along any axis, its records at any places. Assumes nothing.
-use Prim.Native.Nat.{ℕ, zero, suc, _+_, _*_, _/_, _%_}
+use Prim.Native.Nat.{ℕ, zero, suc, _+_, _*_, _/_, _%_, _<_}
 use mathlib.Core.Bool.{Bool, true, false, not, _&&_}
 use mathlib.Core.List.{List}
 use lib.Dec.{leb, eqb}
@@ -20,6 +20,10 @@ span a b = record { first = a; last = b; sound = true }
 
 abbrev pub noSpan : Span
 noSpan = record { first = 0; last = 0; sound = false }
+
+-- its ends are slots of a table of that capacity
+abbrev pub Within : ℕ → Span → Type 0
+Within capacity s = (s .first < capacity) × (s .last < capacity)
 
 unfoldable pub sameArm : Arm → Arm → Bool
 sameArm a b =
@@ -45,10 +49,9 @@ abbrev pub anyNode : NodeTest
 anyNode first last = true
 
 module _ (A : Axis Mark Box) where
-  -- a leaf, where the slot passes a test
-  unfoldable pub spanLeaf : (ℕ → Bool) → Arm → List ℕ → Span
-  spanLeaf slot a xs =
-      let s : ℕ = a .node / 2 in
+  -- the leaf of slot s, where the slot passes a test
+  unfoldable pub spanLeaf : (ℕ → Bool) → ℕ → Arm → List ℕ → Span
+  spanLeaf slot s a xs =
       if slot s then (if sameArm a (leafArm s (A .at (slotMark xs s))) then span s s else noSpan) else noSpan
 
   -- a node of that name over two trees
@@ -61,15 +64,18 @@ module _ (A : Axis Mark Box) where
 
   -- A tree's slots pass `slot`, and its inner nodes `test`, given where the node's level begins, its name and its weight; `next` is where the level
   -- beneath begins.
-  module _ (place : ℕ → ℕ) (slot : ℕ → Bool) (next : ℕ → ℕ) (test : ℕ → ℕ → ℕ → NodeTest) where
+  module _ (capacity : ℕ) (place : ℕ → ℕ) (slot : ℕ → Bool) (next : ℕ → ℕ) (test : ℕ → ℕ → ℕ → NodeTest) where
     unfoldable pub spanNode : (ℕ → Arm → Span) → ℕ → ℕ → Arm → Record → List ℕ → Span
     spanNode rec base name a p xs =
         if fits♯ name a (p .left) (p .right) then spanOver (test base name (a .weight)) name (rec (next base) (p .left)) (rec (next base) (p .right)) xs
         else noSpan
 
+    -- a node of no slot is damage
     unfoldable pub spanStep : (ℕ → Arm → Span) → ℕ → Arm → List ℕ → Span
     spanStep rec base a xs =
-        if eqb (a .node % 2) 0 then spanLeaf slot a xs else spanNode rec base (a .node / 2) a (recordAt xs (place (a .node / 2))) xs
+        if leb capacity (a .node / 2) then noSpan
+        else (if eqb (a .node % 2) 0 then spanLeaf slot (a .node / 2) a xs
+        else spanNode rec base (a .node / 2) a (recordAt xs (place (a .node / 2))) xs)
 
     unfoldable pub treeSpan : ℕ → List ℕ → ℕ → Arm → Span
     treeSpan zero xs base a = noSpan

@@ -4,15 +4,17 @@ use mathlib.Core.Path.{_≡_, refl}
 use mathlib.Core.Bool.{Bool, true, false}
 use mathlib.Core.List.{List}
 use native.Mathlib.Omega.{arith}
-use lib.Dec.{eqb}
+use lib.Dec.{ltb, eqb}
+use lib.ListN.{length}
 use Rattle.model.specs.Lists.{if_then_else_}
 use Rattle.model.specs.Sheet.{belowX, markOutside, alongX, alongY}
-use Rattle.table.specs.Layout.{mainPlace, auxiliaryPlace, recordPlace, deepest}
+use Rattle.table.specs.Layout.{mainPlace, auxiliaryPlace, recordPlace, levelEnd}
+use Rattle.table.specs.Limits.{deepest}
 use Rattle.table.specs.Marks.{slotMark}
 use Rattle.nodes.specs.Arms.{Arm, armAt}
-use Rattle.twofold.specs.Levels.{deeper}
+use Rattle.twofold_layout.specs.Levels.{deeper}
 use Rattle.checking.specs.Slots.{liveSlot♯}
-use Rattle.checking.specs.Span.{Span, noSpan, anyNode, spanNode, spanStep, treeSpan}
+use Rattle.checking.specs.Span.{Span, noSpan, anyNode, spanOver, spanNode, spanStep, treeSpan}
 
 -- an auxiliary tree's slots: live, their marks from that of the slot `first` to that of `last` by x
 unfoldable pub auxiliarySlot♯ : ℕ → ℕ → ℕ → ℕ → List ℕ → ℕ → Bool
@@ -24,7 +26,7 @@ auxiliarySlot♯ capacity live first last xs s =
 -- the level stays the same in an auxiliary tree, and its nodes carry nothing that stands in the words
 unfoldable pub auxiliarySpan♯ : ℕ → ℕ → ℕ → ℕ → ℕ → ℕ → Arm → List ℕ → Span
 auxiliarySpan♯ fuel base capacity live first last a xs =
-    treeSpan alongY (recordPlace base) (auxiliarySlot♯ capacity live first last xs) (λ b. b) (λ b name w. anyNode) fuel xs base a
+    treeSpan alongY capacity (recordPlace base) (auxiliarySlot♯ capacity live first last xs) (λ b. b) (λ b name w. anyNode) fuel xs base a
 
 pub auxiliarySpan♯-zero : (n : ℕ) → n ≡ 0 → (base capacity live first last : ℕ) (a : Arm) (xs : List ℕ)
     → auxiliarySpan♯ n base capacity live first last a xs ≡ noSpan
@@ -33,25 +35,30 @@ auxiliarySpan♯-zero n e base capacity live first last a xs = rw e
 
 pub auxiliarySpan♯-suc : (n : ℕ) → (n ≡ 0 → ⊥) → (base capacity live first last : ℕ) (a : Arm) (xs : List ℕ)
     → auxiliarySpan♯ n base capacity live first last a xs
-    ≡ spanStep alongY (recordPlace base) (auxiliarySlot♯ capacity live first last xs) (λ b. b) (λ b name w. anyNode)
+    ≡ spanStep alongY capacity (recordPlace base) (auxiliarySlot♯ capacity live first last xs) (λ b. b) (λ b name w. anyNode)
     (λ b q. auxiliarySpan♯ (n - 1) base capacity live first last q xs) base a xs
 unfolding auxiliarySpan♯ treeSpan spanStep spanNode
 auxiliarySpan♯-suc zero h base capacity live first last a xs = absurd (h refl)
 auxiliarySpan♯-suc (suc n) h base capacity live first last a xs = let e : suc n - 1 ≡ n = omega arith in rw e
 
--- an inner main node's auxiliary tree
+-- an inner main node's auxiliary tree; past the words there is none
 unfoldable pub auxiliaryStands♯ : ℕ → ℕ → List ℕ → ℕ → ℕ → ℕ → ℕ → ℕ → Bool
 auxiliaryStands♯ capacity live xs base name w first last =
     let a : Arm = armAt xs (auxiliaryPlace name) in
-    if eqb (a .weight) w then auxiliarySpan♯ deepest base capacity live first last a xs .sound else false
+    if ltb (length xs) (levelEnd base capacity) then false
+    else (if eqb (a .weight) w then auxiliarySpan♯ deepest base capacity live first last a xs .sound else false)
 
 -- the main tree's slots: live, their marks on the sheet
 unfoldable pub mainSlot♯ : ℕ → ℕ → List ℕ → ℕ → Bool
 mainSlot♯ capacity live xs s = if liveSlot♯ capacity live xs s then (if markOutside (slotMark xs s) then false else true) else false
 
+-- an inner main node over two trees
+abbrev pub mainOver : ℕ → ℕ → ℕ → ℕ → ℕ → Span → Span → List ℕ → Span
+mainOver capacity live base name w x y xs = spanOver alongX (auxiliaryStands♯ capacity live xs base name w) name x y xs
+
 unfoldable pub mainSpan♯ : ℕ → ℕ → ℕ → ℕ → Arm → List ℕ → Span
 mainSpan♯ fuel base capacity live a xs =
-    treeSpan alongX mainPlace (mainSlot♯ capacity live xs) (λ b. deeper b capacity) (auxiliaryStands♯ capacity live xs) fuel xs base a
+    treeSpan alongX capacity mainPlace (mainSlot♯ capacity live xs) (λ b. deeper b capacity) (auxiliaryStands♯ capacity live xs) fuel xs base a
 
 pub mainSpan♯-zero : (n : ℕ) → n ≡ 0 → (base capacity live : ℕ) (a : Arm) (xs : List ℕ) → mainSpan♯ n base capacity live a xs ≡ noSpan
 unfolding mainSpan♯ treeSpan
@@ -59,7 +66,7 @@ mainSpan♯-zero n e base capacity live a xs = rw e
 
 pub mainSpan♯-suc : (n : ℕ) → (n ≡ 0 → ⊥) → (base capacity live : ℕ) (a : Arm) (xs : List ℕ)
     → mainSpan♯ n base capacity live a xs
-    ≡ spanStep alongX mainPlace (mainSlot♯ capacity live xs) (λ b. deeper b capacity) (auxiliaryStands♯ capacity live xs)
+    ≡ spanStep alongX capacity mainPlace (mainSlot♯ capacity live xs) (λ b. deeper b capacity) (auxiliaryStands♯ capacity live xs)
     (λ b q. mainSpan♯ (n - 1) b capacity live q xs) base a xs
 unfolding mainSpan♯ treeSpan
 mainSpan♯-suc zero h base capacity live a xs = absurd (h refl)

@@ -5,8 +5,8 @@ use mathlib.Core.List.{List}
 use lib.ListN.{length}
 use Rattle.model.specs.Tree.{marksOf}
 use Rattle.model.specs.Sheet.{Main}
-use Rattle.table.specs.Layout.{damaged}
-use Rattle.twofold.specs.Sound.{Holding, SoundTable}
+use Rattle.table.specs.Limits.{damaged}
+use Rattle.twofold_layout.specs.Sound.{Holding, SoundTable}
 
 pub data Verdict (xs : List ℕ) : ℕ → Type 0 where
   sound : {T : Main} → Holding xs T → Verdict xs (length (marksOf T))

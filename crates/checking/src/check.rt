@@ -1,20 +1,25 @@
 // The check of a table.
 ghost use mathlib.Core.Path.{_≡_};
+ghost use Prim.Native.Nat.{_≤_};
+ghost use lib.ListN.{length};
+ghost use Rattle.table.specs.Layout.{slotsEnd};
 ghost use Rattle.checking.specs.Check.{soundTree♯, live♯};
 ghost use Rattle.checking.specs.Verdict.{Verdict};
-use crate::header;
 use crate::main_tree;
 use crate::slots;
 use nodes::primary::PrimaryArm;
+use table::header;
+use table::layout;
 use table::limits;
-use twofold::levels;
+use twofold_layout::levels;
 
 // Whether a table of that capacity with `live` marks holds a tree by the rules, and has every other slot free, each once.
 fn holds_tree(t: &[u32], capacity: u32, live: u32) -> bool
+    requires { ⌜ slotsEnd capacity ≤ length (now t) ⌝ }
     ensures { λ r. ⌜ r ≡ soundTree♯ capacity live (now (t .entry)) ⌝ }
 {
     if slots::inverse(t, capacity) {
-        let root = PrimaryArm::at(t, table::header::ROOT);
+        let root = PrimaryArm::load(t, layout::ROOT);
         if root.weight == live {
             if live == 0 {
                 return true;
@@ -44,8 +49,8 @@ fn live_marks(t: &[u32]) -> u32
     if own < t.len() {
         return limits::DAMAGED;
     }
-    let live = table::header::live(t);
-    if holds_tree(t, table::header::capacity(t), live) {
+    let live = header::live(t);
+    if holds_tree(t, header::capacity(t), live) {
         return live;
     }
     limits::DAMAGED

@@ -5,6 +5,5 @@ pub mod arms;
 pub mod auxiliary_tree;
 pub mod check;
 pub mod ends;
-pub mod header;
 pub mod main_tree;
 pub mod slots;

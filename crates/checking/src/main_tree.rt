@@ -1,26 +1,32 @@
 // The walk through the main tree, and from each of its inner nodes through the node's auxiliary tree.
 ghost use mathlib.Core.Path.{_≡_};
+ghost use Prim.Native.Nat.{_<_, _≤_};
+ghost use lib.ListN.{length};
 ghost use Rattle.model.specs.Sheet.{alongX};
+ghost use Rattle.table.specs.Layout.{slotsEnd};
 ghost use Rattle.nodes.specs.Values.{primaryArm};
-ghost use Rattle.checking.specs.Span.{spanLeaf, spanOver};
-ghost use Rattle.checking.specs.Trees.{mainSlot♯, auxiliaryStands♯, mainSpan♯};
+ghost use Rattle.checking.specs.Span.{Within, spanLeaf};
+ghost use Rattle.checking.specs.Trees.{mainSlot♯, auxiliaryStands♯, mainOver, mainSpan♯};
 ghost use Rattle.checking.specs.Values.{endsValue};
 use crate::arms;
 use crate::auxiliary_tree;
 use crate::ends;
 use crate::ends::Ends;
 use crate::slots;
+use nodes::arm::Arm;
 use nodes::primary::PrimaryArm;
 use nodes::primary::PrimaryRecord;
+use table::layout;
 use table::limits;
-use twofold::levels;
+use twofold_layout::levels;
 
 // Whether a slot may stand in the main tree: it holds a mark, with coordinates of the sheet.
 fn may_stand(t: &[u32], capacity: u32, live: u32, s: u32) -> bool
+    requires { ⌜ (s < capacity) × (slotsEnd capacity ≤ length (now t)) ⌝ }
     ensures { λ r. ⌜ r ≡ mainSlot♯ capacity live (now (t .entry)) s ⌝ }
 {
     if slots::is_live(t, capacity, live, s) {
-        let m = table::slots::mark_at(t, s);
+        let m = table::slots::load(t, s);
         if m.is_outside() {
             return false;
         }
@@ -29,21 +35,22 @@ fn may_stand(t: &[u32], capacity: u32, live: u32, s: u32) -> bool
     false
 }
 
-fn leaf(t: &[u32], capacity: u32, live: u32, a: PrimaryArm) -> Ends
-    ensures { λ r. ⌜ endsValue r ≡ spanLeaf alongX (mainSlot♯ capacity live (now (t .entry))) (primaryArm a) (now (t .entry)) ⌝ }
+// The leaf of slot s.
+fn leaf(t: &[u32], capacity: u32, live: u32, s: u32, a: PrimaryArm) -> Ends
+    requires { ⌜ (s < capacity) × (slotsEnd capacity ≤ length (now t)) ⌝ }
+    ensures { λ r. ⌜ endsValue r ≡ spanLeaf alongX (mainSlot♯ capacity live (now (t .entry))) s (primaryArm a) (now (t .entry)) ⌝ }
 {
-    let node = a.node;
-    let s = node.slot();
     if may_stand(t, capacity, live, s) {
-        let m = table::slots::mark_at(t, s);
-        if arms::same_primary(a, PrimaryArm::leaf(s, m.x)) {
+        let m = table::slots::load(t, s);
+        if arms::same(a.bare(), Arm::leaf(s, m.x)) {
             return ends::between(s, s);
         }
     }
     ends::none()
 }
 
-// The auxiliary tree of the node of that name, which has `weight` marks, from the slot `first` to the slot `last`.
+// The auxiliary tree of the node of that name, which has `weight` marks, from the slot `first` to the slot `last`. Whether the level is there is tested
+// here, once for the whole tree.
 fn auxiliary_stands(
     t: &[u32],
     base: u32,
@@ -54,9 +61,13 @@ fn auxiliary_stands(
     first: u32,
     last: u32,
 ) -> bool
+    requires { ⌜ (name < capacity) × (first < capacity) × (last < capacity) × (slotsEnd capacity ≤ length (now t)) ⌝ }
     ensures { λ r. ⌜ r ≡ auxiliaryStands♯ capacity live (now (t .entry)) base name weight first last ⌝ }
 {
-    let a = PrimaryRecord::auxiliary(t, name);
+    if t.len() < (base as usize) + layout::RECORD * (capacity as usize) {
+        return false;
+    }
+    let a = PrimaryRecord::load_auxiliary(t, name);
     if a.weight == weight {
         let e = auxiliary_tree::tree(t, base, capacity, live, first, last, a, limits::DEEPEST);
         return e.sound;
@@ -75,11 +86,12 @@ fn over(
     x: Ends,
     y: Ends,
 ) -> Ends
-    ensures { λ r. ⌜ endsValue r ≡ spanOver alongX (auxiliaryStands♯ capacity live (now (t .entry)) base name weight) name (endsValue x) (endsValue y) (now (t .entry)) ⌝ }
+    requires { ⌜ (name < capacity) × Within capacity (endsValue x) × Within capacity (endsValue y) × (slotsEnd capacity ≤ length (now t)) ⌝ }
+    ensures { λ r. ⌜ endsValue r ≡ mainOver capacity live base name weight (endsValue x) (endsValue y) (now (t .entry)) ⌝ }
 {
     if ends::joins(name, x, y) {
-        let m = table::slots::mark_at(t, x.last);
-        if m.below_x(table::slots::mark_at(t, name)) {
+        let m = table::slots::load(t, x.last);
+        if m.below_x(table::slots::load(t, name)) {
             if auxiliary_stands(t, base, capacity, live, name, weight, x.first, y.last) {
                 return ends::between(x.first, y.last);
             }
@@ -88,8 +100,9 @@ fn over(
     ends::none()
 }
 
-// The tree of an arm; base is where the level of its root begins.
+// The tree of an arm; base is where the level of its root begins. A node of no slot is damage.
 pub fn tree(t: &[u32], base: u32, capacity: u32, live: u32, a: PrimaryArm, fuel: u32) -> Ends
+    requires { ⌜ slotsEnd capacity ≤ length (now t) ⌝ }
     ensures { λ r. ⌜ endsValue r ≡ mainSpan♯ fuel base capacity live (primaryArm a) (now (t .entry)) ⌝ }
 {
     if fuel == 0 {
@@ -97,14 +110,19 @@ pub fn tree(t: &[u32], base: u32, capacity: u32, live: u32, a: PrimaryArm, fuel:
     }
     let node = a.node;
     let name = node.slot();
-    if node.is_leaf() {
-        return leaf(t, capacity, live, a);
+    if capacity <= name {
+        return ends::none();
     }
-    let p = PrimaryRecord::at(t, name);
-    if arms::primary_fits(a, name, p.left, p.right) {
+    if node.is_leaf() {
+        return leaf(t, capacity, live, name, a);
+    }
+    let p = PrimaryRecord::load(t, name);
+    let l = p.left;
+    let r = p.right;
+    if arms::fits(a.bare(), name, l.bare(), r.bare()) {
         let next = levels::deeper(base, capacity);
-        let x = tree(t, next, capacity, live, p.left, fuel - 1);
-        let y = tree(t, next, capacity, live, p.right, fuel - 1);
+        let x = tree(t, next, capacity, live, l, fuel - 1);
+        let y = tree(t, next, capacity, live, r, fuel - 1);
         return over(t, base, capacity, live, name, a.weight, x, y);
     }
     ends::none()

@@ -1,15 +1,14 @@
 // The slots: which hold marks, and that each stands once in `used`.
 ghost use mathlib.Core.Path.{_≡_};
+ghost use Prim.Native.Nat.{_<_};
 ghost use Rattle.checking.specs.Slots.{liveSlot♯, placed♯, inverse♯};
 use table::runs;
 
-// Whether s is a slot of the table and holds a mark.
+// Whether the slot s holds a mark.
 pub fn is_live(t: &[u32], capacity: u32, live: u32, s: u32) -> bool
+    requires { ⌜ s < capacity ⌝ }
     ensures { λ r. ⌜ r ≡ liveSlot♯ capacity live (now (t .entry)) s ⌝ }
 {
-    if capacity <= s {
-        return false;
-    }
     runs::place(t, capacity, s) < live
 }
 

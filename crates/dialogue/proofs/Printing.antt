@@ -13,7 +13,8 @@ use Rattle.model.specs.History.{Call, openFor, State, Answer, answer, next}
 use Rattle.model.specs.Sizes.{capacityOutside, D, riseD, W}
 use Rattle.model.specs.Refusals.{openTable}
 use Rattle.model.proofs.TwoFold.{open-agrees}
-use Rattle.twofold.specs.Sound.{capacityOf, Holding}
+use Rattle.twofold_layout.specs.Sound.{Holding}
+use Rattle.table.specs.Header.{capacityOf}
 use Rattle.register.proofs.Stands.{Stands, call-follows}
 use Rattle.register.proofs.History.{open-later}
 use Rattle.register.specs.Performs.{Lent, lends, alone, own, early, Performs}

@@ -5,7 +5,8 @@ use mathlib.Core.List.{List, [], _∷_, _++_}
 use mathlib.Core.Option.{none, some}
 use lib.ListN.{length}
 use Rattle.model.specs.History.{State, answer, next}
-use Rattle.twofold.specs.Sound.{capacityOf, Holding}
+use Rattle.twofold_layout.specs.Sound.{Holding}
+use Rattle.table.specs.Header.{capacityOf}
 use Rattle.register.specs.Performs.{own}
 use Rattle.lines.specs.Commands.{Command}
 use Rattle.lines.specs.Input.{longestLine, TakenAs}

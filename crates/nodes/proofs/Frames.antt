@@ -1,29 +1,24 @@
--- Which words a change leaves alone, over word indices, and what follows for marks and records. Assumes nothing.
-use Prim.Native.Nat.{ℕ, zero, suc, _+_, _*_, _≤_, _<_}
+-- Where the records of a tree may stand, which words a change of some of them leaves alone, and a record written and read again. Assumes nothing.
+use Prim.Native.Nat.{ℕ, zero, suc, _+_, _*_, _-_, _≤_, _<_}
 use mathlib.Core.Path.{_≡_, refl, sym, ap, subst, _∙_}
 use mathlib.Core.List.{List, [], _∷_, _++_}
 use mathlib.Core.Logic.{_⊎_, inl, inr}
 use native.Mathlib.Omega.{arith}
 use lib.ListN.{length, getD, set, length-set}
-use lib.Seq.{sets, length-sets, getD-set-same, getD-set-other}
+use lib.Seq.{sets, length-sets, getD-set-same}
 use borrow.Author.Tests.{le-leb}
-use Rattle.model.proofs.Logic.{by-order}
-use Rattle.table.specs.Layout.{slotPlace, mainPlace, runPlace, recordPlace}
-use Rattle.table.specs.Marks.{markAt, slotMark}
-use Rattle.nodes.specs.Arms.{Arm, arms, recordAt, putRecord}
+use Rattle.table.specs.Layout.{slotPlace, mainPlace, runPlace, recordPlace, levelEnd}
+use Rattle.table.specs.Marks.{slotMark}
+use Rattle.nodes.specs.Arms.{Arm, arms, recordAt, putArm, putRecord}
+use Rattle.nodes.proofs.Unchanged.{Off, Apart, Unchanged, unchanged-weaken, unchanged-record, unchanged-mark}
+use Rattle.nodes.proofs.Unchanged.{sets-unchanged, putArm-unchanged, putRecord-unchanged}
 
--- a run of stores leaves the words before it and after it
-pub sets-other : (vs xs : List ℕ) (i j : ℕ) → (j < i) ⊎ (i + length vs ≤ j) → getD (sets xs i vs) j 0 ≡ getD xs j 0
-sets-other [] xs i j h = refl
-sets-other (v ∷ vs) xs i j (inl h) = sets-other vs (set xs i v) (suc i) j (inl (omega arith)) ∙ getD-set-other xs i j v 0 (omega arith)
-sets-other (v ∷ vs) xs i j (inr h) = sets-other vs (set xs i v) (suc i) j (inr (omega arith)) ∙ getD-set-other xs i j v 0 (omega arith)
-
--- and reads as what was stored
+-- a run of stores reads as what was stored
 pub sets-at : (vs xs : List ℕ) (i j : ℕ) → j < length vs → i + length vs ≤ length xs → getD (sets xs i vs) (i + j) 0 ≡ getD vs j 0
 sets-at [] xs i j h r = absurd (omega arith)
 sets-at (v ∷ vs) xs i zero h r =
     let e : i + 0 ≡ i = omega arith in
-    rw e (sets-other vs (set xs i v) (suc i) i (inl (omega arith)) ∙ getD-set-same xs i v 0 (omega arith))
+    rw e (sets-unchanged vs (set xs i v) (suc i) .same i (omega arith) ∙ getD-set-same xs i v 0 (omega arith))
 sets-at (v ∷ vs) xs i (suc j) h r =
     let e : i + suc j ≡ suc i + j = omega arith in
     let l = length-set xs i v in
@@ -43,135 +38,96 @@ pub record Region (place : ℕ → ℕ) (C n : ℕ) : Type 0 where
   pub runRoom : runPlace C C ≤ n
   pub room : (s : ℕ) → s < C → place s + 8 ≤ n
   pub afterHeader : (s : ℕ) → s < C → 64 ≤ place s
-  pub apart : (s q : ℕ) → s < C → q < C → (s ≡ q → ⊥) → (place s + 8 ≤ place q) ⊎ (place q + 8 ≤ place s)
-  pub offMarks : (s q : ℕ) → s < C → q < C → (slotPlace q + 3 ≤ place s) ⊎ (place s + 8 ≤ slotPlace q)
-  pub offRun : (s : ℕ) → s < C → (runPlace C C ≤ place s) ⊎ (place s + 8 ≤ runPlace C 0)
+  pub apart : (s q : ℕ) → s < C → q < C → (s ≡ q → ⊥) → Apart (place s) 8 (place q) 8
+  pub offMarks : (s q : ℕ) → s < C → q < C → Apart (place s) 8 (slotPlace q) 3
+  pub offRun : (s : ℕ) → s < C → Apart (runPlace C 0) C (place s) 8
 
 -- a level of auxiliary records is such a region, and so are the main records
 
 pub level-region : (base C n : ℕ) → C ≤ 65536 → runPlace C C ≤ base → base + 8 * C ≤ n → Region (recordPlace base) C n
-level-region base C n small low high = record {
-  small = small;
-  runRoom = omega arith;
-  room = λ s h. omega arith;
-  afterHeader = λ s h. omega arith;
-  apart = λ s q h k ne. by-order s q (λ l. inl (omega arith)) (λ e. absurd (ne e)) (λ l. inr (omega arith));
-  offMarks = λ s q h k. inl (omega arith);
-  offRun = λ s h. inl (omega arith);
-}
+level-region base C n small low high = omega arith
+
+-- and all the records of such a level are there
+pub level-there : (base C n : ℕ) → Region (recordPlace base) C n → 0 < C → levelEnd base C ≤ n
+level-there base C n g some = omega (arith, g .room (C - 1) (omega arith))
 
 pub main-region : (C n : ℕ) → C ≤ 65536 → runPlace C C ≤ n → Region mainPlace C n
-main-region C n small high = record {
-  small = small;
-  runRoom = high;
-  room = λ s h. omega arith;
-  afterHeader = λ s h. omega arith;
-  apart = λ s q h k ne. by-order s q (λ l. inl (omega arith)) (λ e. absurd (ne e)) (λ l. inr (omega arith));
-  offMarks = λ s q h k. by-order q s (λ l. inl (omega arith)) (λ e. inl (omega arith)) (λ l. inr (omega arith));
-  offRun = λ s h. inr (omega arith);
-}
+main-region C n small high = omega arith
 
 -- a word outside the records of the slots that P tells
 abbrev pub Outside : (ℕ → ℕ) → (ℕ → Type 0) → ℕ → Type 0
-Outside place P i = (s : ℕ) → P s → (i < place s) ⊎ (place s + 8 ≤ i)
+Outside place P i = (s : ℕ) → P s → Off (place s) (place s + 8) i
 
 -- all words are the same but for the records of the slots that P tells, and the words from lo to hi
-pub record Frame (place : ℕ → ℕ) (P : ℕ → Type 0) (lo hi : ℕ) (xs ys : List ℕ) : Type 0 where
-  pub long : length ys ≡ length xs
-  pub same : (i : ℕ) → Outside place P i → (i < lo) ⊎ (hi ≤ i) → getD ys i 0 ≡ getD xs i 0
+abbrev pub Frame : (ℕ → ℕ) → (ℕ → Type 0) → ℕ → ℕ → List ℕ → List ℕ → Type 0
+Frame place P lo hi xs ys = Unchanged (λ i. Outside place P i × Off lo hi i) xs ys
 
-module _ {place : ℕ → ℕ} where
-  pub frame-refl : {P : ℕ → Type 0} {lo hi : ℕ} (xs : List ℕ) → Frame place P lo hi xs xs
-  frame-refl xs = record { long = refl; same = λ i o r. refl }
+-- and but for the arm at the word `at`
+abbrev pub FrameAt : (ℕ → ℕ) → (ℕ → Type 0) → ℕ → ℕ → ℕ → List ℕ → List ℕ → Type 0
+FrameAt place P at lo hi xs ys = Unchanged (λ i. Outside place P i × Off lo hi i × Off at (at + 4) i) xs ys
 
-  pub frame-trans : {P : ℕ → Type 0} {lo hi : ℕ} {xs ys zs : List ℕ} → Frame place P lo hi xs ys → Frame place P lo hi ys zs → Frame place P lo hi xs zs
-  frame-trans a b = record { long = b .long ∙ a .long; same = λ i o r. b .same i o r ∙ a .same i o r }
+module _ {place : ℕ → ℕ} {P : ℕ → Type 0} {lo hi : ℕ} {xs ys : List ℕ} where
+  pub frame-weaken : {Q : ℕ → Type 0} → ((s : ℕ) → P s → Q s) → Frame place P lo hi xs ys → Frame place Q lo hi xs ys
+  frame-weaken w a = unchanged-weaken (λ i o. (λ s p. o .0 s (w s p), o .1)) a
 
-  -- a frame may be told less of
-  pub frame-weaken : {P Q : ℕ → Type 0} {lo hi : ℕ} {xs ys : List ℕ} → ((s : ℕ) → P s → Q s) → Frame place P lo hi xs ys → Frame place Q lo hi xs ys
-  frame-weaken w a = record { long = a .long; same = λ i o r. a .same i (λ s p. o s (w s p)) r }
+  pub frameAt-weaken : {Q : ℕ → Type 0} {at : ℕ} → ((s : ℕ) → P s → Q s) → FrameAt place P at lo hi xs ys → FrameAt place Q at lo hi xs ys
+  frameAt-weaken w a = unchanged-weaken (λ i o. (λ s p. o .0 s (w s p), o .1, o .2)) a
 
-  -- where no word was written outside the records, any run will do
-  pub frame-run : {P : ℕ → Type 0} {xs ys : List ℕ} (lo hi : ℕ) → Frame place P 0 0 xs ys → Frame place P lo hi xs ys
-  frame-run lo hi a = record { long = a .long; same = λ i o r. a .same i o (inr (omega arith)) }
+  pub frameAt-of : {at : ℕ} → Frame place P lo hi xs ys → FrameAt place P at lo hi xs ys
+  frameAt-of a = unchanged-weaken (λ i o. (o .0, o .1)) a
 
--- records and marks that read the same words are the same
-pub record-same : (xs ys : List ℕ) (at : ℕ) → length ys ≡ length xs → ((j : ℕ) → j < 8 → getD ys (at + j) 0 ≡ getD xs (at + j) 0) → recordAt ys at ≡ recordAt xs at
-unfolding recordAt
-record-same xs ys at l h =
-    let e : at + 0 ≡ at = omega arith in
-    let w : getD ys at 0 ≡ getD xs at 0 = ap (λ i. getD ys i 0) (sym e) ∙ h 0 (omega arith) ∙ ap (λ i. getD xs i 0) e in
-    rw (l, w, h 1 (omega arith), h 2 (omega arith), h 3 (omega arith), h 4 (omega arith), h 5 (omega arith), h 6 (omega arith), h 7 (omega arith))
+  -- an arm within a record: its words are words of that record
+  pub frameAt-record : {at : ℕ} (name : ℕ) → place name ≤ at → at + 4 ≤ place name + 8
+      → FrameAt place P at lo hi xs ys → Frame place (λ s. P s ⊎ (s ≡ name)) lo hi xs ys
+  frameAt-record name l u a =
+      unchanged-weaken (λ i o. (λ s p. o .0 s (inl p), o .1, λ h. omega (arith, o .0 name (inr refl) (omega arith)))) a
 
-pub slotMark-same : (xs ys : List ℕ) (s : ℕ) → length ys ≡ length xs → ((j : ℕ) → j < 3 → getD ys (slotPlace s + j) 0 ≡ getD xs (slotPlace s + j) 0) → slotMark ys s ≡ slotMark xs s
-unfolding slotMark markAt
-slotMark-same xs ys s l h =
-    let e : slotPlace s + 0 ≡ slotPlace s = omega arith in
-    let w : getD ys (slotPlace s) 0 ≡ getD xs (slotPlace s) 0 = ap (λ i. getD ys i 0) (sym e) ∙ h 0 (omega arith) ∙ ap (λ i. getD xs i 0) e in
-    rw (l, w, h 1 (omega arith), h 2 (omega arith))
+-- where no word was written outside the records, any run will do
+pub frame-run : {place : ℕ → ℕ} {P : ℕ → Type 0} {xs ys : List ℕ} (lo hi : ℕ) → Frame place P 0 0 xs ys → Frame place P lo hi xs ys
+frame-run lo hi a = unchanged-weaken (λ i o. (o .0, omega arith)) a
 
--- by a frame: the record of a slot that P does not tell, and every mark
-module _ {place : ℕ → ℕ} {C n : ℕ} (g : Region place C n) {P : ℕ → Type 0} {lo hi : ℕ} (low : runPlace C 0 ≤ lo) (high : hi ≤ runPlace C C) {xs ys : List ℕ} (a : Frame place P lo hi xs ys) (inC : (s : ℕ) → P s → s < C) where
-  past-run : (i k w : ℕ) → k ≤ i → i < k + w → (runPlace C C ≤ k) ⊎ (k + w ≤ runPlace C 0) → (i < lo) ⊎ (hi ≤ i)
-  past-run i k w h l (inl r) = inr (omega arith)
-  past-run i k w h l (inr r) = inl (omega arith)
+-- an arm and a record written
+pub putArm-frame : {place : ℕ → ℕ} {P : ℕ → Type 0} {lo hi : ℕ} (xs : List ℕ) (at : ℕ) (a : Arm) → FrameAt place P at lo hi xs (putArm xs at a)
+putArm-frame xs at a = unchanged-weaken (λ i o. o .2) (putArm-unchanged xs at a)
 
-  off : (i k w v u : ℕ) → k ≤ i → i < k + w → (v + u ≤ k) ⊎ (k + w ≤ v) → (i < v) ⊎ (v + u ≤ i)
-  off i k w v u h l (inl r) = inr (omega arith)
-  off i k w v u h l (inr r) = inl (omega arith)
+pub putRecord-frame : (place : ℕ → ℕ) (xs : List ℕ) (name : ℕ) (l r : Arm) → Frame place (λ s. s ≡ name) 0 0 xs (putRecord xs (place name) l r)
+putRecord-frame place xs name l r = unchanged-weaken (λ i o. o .0 name refl) (putRecord-unchanged xs (place name) l r)
 
+-- by a frame: the record of a slot that P does not tell, every mark, and the header
+module _ {place : ℕ → ℕ} {C n : ℕ} (g : Region place C n) {P : ℕ → Type 0} {lo hi : ℕ} (low : runPlace C 0 ≤ lo) (high : hi ≤ runPlace C C)
+    {xs ys : List ℕ} (a : Frame place P lo hi xs ys) (inC : (s : ℕ) → P s → s < C) where
   pub frame-record : (s : ℕ) → s < C → (P s → ⊥) → recordAt ys (place s) ≡ recordAt xs (place s)
   frame-record s h out =
-      record-same xs ys (place s) (a .long) (λ j k.
-      a .same (place s + j)
-      (λ q p. off (place s + j) (place s) 8 (place q) 8 (omega arith) (omega arith) (g .apart q s (inC q p) h (λ e. out (subst P e p))))
-      (past-run (place s + j) (place s) 8 (omega arith) (omega arith) (g .offRun s h)))
+      unchanged-record a (place s) (λ i l u. (
+        λ q p k. omega (arith, g .apart q s (inC q p) h (λ e. out (subst P e p)) (omega arith)),
+        λ k. omega (arith, g .offRun s h (omega arith)),
+      ))
 
   pub frame-mark : (s : ℕ) → s < C → slotMark ys s ≡ slotMark xs s
-  frame-mark s h =
-      slotMark-same xs ys s (a .long) (λ j k.
-      a .same (slotPlace s + j)
-      (λ q p. off (slotPlace s + j) (slotPlace s) 3 (place q) 8 (omega arith) (omega arith) (swap (g .offMarks q s (inC q p) h)))
-      (inl (omega arith)))
-    where
-      swap : {X Y : Type 0} → X ⊎ Y → Y ⊎ X
-      swap (inl x) = inr x
-      swap (inr y) = inl y
+  frame-mark s h = unchanged-mark a s (λ i l u. (λ q p k. omega (arith, g .offMarks q s (inC q p) h (omega arith)), omega arith))
 
   pub frame-header : (i : ℕ) → i < 64 → getD ys i 0 ≡ getD xs i 0
-  frame-header i h = a .same i (λ q p. let z = g .afterHeader q (inC q p) in inl (omega arith)) (inl (omega arith))
+  frame-header i h = a .same i (λ q p. omega (arith, g .afterHeader q (inC q p)), omega arith)
 
--- a record written and read again, and what its writing leaves alone
-module _ (place : ℕ → ℕ) (xs : List ℕ) (name : ℕ) (l r : Arm) (room : place name + 8 ≤ length xs) where
-  abbrev written : List ℕ
-  written = l .node ∷ l .weight ∷ l .least ∷ l .greatest ∷ r .node ∷ r .weight ∷ r .least ∷ r .greatest ∷ []
-
-  putRecord-sets : putRecord xs (place name) l r ≡ sets xs (place name) written
-  unfolding putRecord
-  putRecord-sets = rw (le-leb (place name + 8) (length xs) room)
-
-  pub putRecord-frame : Frame place (λ s. s ≡ name) 0 0 xs (putRecord xs (place name) l r)
-  putRecord-frame = rw putRecord-sets record {
-    long = length-sets xs (place name) written;
-    same = λ i o h. sets-other written xs (place name) i (o name refl);
-  }
-
-  pub putRecord-same : recordAt (putRecord xs (place name) l r) (place name) ≡ arms l r
-  unfolding recordAt
-  putRecord-same =
-      let at = place name in
-      let e : at + 0 ≡ at = omega arith in
-      let w0 : getD (sets xs at written) at 0 ≡ l .node = ap (λ i. getD (sets xs at written) i 0) (sym e) ∙ sets-at written xs at 0 (omega arith) room in
-      rw (
-        putRecord-sets,
-        length-sets xs at written,
-        le-leb (at + 8) (length xs) room,
-        w0,
-        sets-at written xs at 1 (omega arith) room,
-        sets-at written xs at 2 (omega arith) room,
-        sets-at written xs at 3 (omega arith) room,
-        sets-at written xs at 4 (omega arith) room,
-        sets-at written xs at 5 (omega arith) room,
-        sets-at written xs at 6 (omega arith) room,
-        sets-at written xs at 7 (omega arith) room,
-      )
+-- a record written and read again
+pub putRecord-same : (place : ℕ → ℕ) (xs : List ℕ) (name : ℕ) (l r : Arm) → place name + 8 ≤ length xs
+    → recordAt (putRecord xs (place name) l r) (place name) ≡ arms l r
+unfolding recordAt putRecord
+putRecord-same place xs name l r room =
+    let at = place name in
+    let vs : List ℕ = l .node ∷ l .weight ∷ l .least ∷ l .greatest ∷ r .node ∷ r .weight ∷ r .least ∷ r .greatest ∷ [] in
+    let e : at + 0 ≡ at = omega arith in
+    let w0 : getD (sets xs at vs) at 0 ≡ l .node = ap (λ i. getD (sets xs at vs) i 0) (sym e) ∙ sets-at vs xs at 0 (omega arith) room in
+    rw (
+      le-leb (at + 8) (length xs) room,
+      length-sets xs at vs,
+      le-leb (at + 8) (length xs) room,
+      w0,
+      sets-at vs xs at 1 (omega arith) room,
+      sets-at vs xs at 2 (omega arith) room,
+      sets-at vs xs at 3 (omega arith) room,
+      sets-at vs xs at 4 (omega arith) room,
+      sets-at vs xs at 5 (omega arith) room,
+      sets-at vs xs at 6 (omega arith) room,
+      sets-at vs xs at 7 (omega arith) room,
+    )

@@ -19,7 +19,7 @@ use Rattle.model.proofs.Tree.{weight-marks, marks-pos, marks-least}
 use Rattle.table.specs.Layout.{runPlace}
 use Rattle.table.specs.Marks.{slotMark}
 use Rattle.nodes.specs.Arms.{Arm, arm, leafNumber, innerNumber, arms, leafArm, overArm, recordAt, putRecord}
-use Rattle.table.specs.Weights.{sum}
+use Rattle.nodes.specs.Weights.{sum}
 use Rattle.nodes.specs.Holds.{armOf, Holds, timesIn, times, Held}
 use Rattle.nodes.proofs.Frames.{Region, Frame, frame-run, frame-record, frame-mark, putRecord-frame, putRecord-same}
 use Rattle.nodes.proofs.Counting.{once-length}
@@ -63,8 +63,8 @@ module _ {I : Type 0} {A : Axis Mark Box} {f : ℕ → Mark} {place : ℕ → �
   }
 
   -- a node over two trees with no slot in common, where its record is right
-  pub held-over : {xs : List ℕ} (i : I) (l r : Tree ℕ I) → recordAt xs (place (least r)) ≡ arms (armOf A f l) (armOf A f r) → Held A f place C xs l → Held A f place C xs r
-      → ((s : ℕ) → times s l + times s r ≤ 1) → Held A f place C xs (node i l r)
+  pub held-over : {xs : List ℕ} (i : I) (l r : Tree ℕ I) → recordAt xs (place (least r)) ≡ arms (armOf A f l) (armOf A f r)
+      → Held A f place C xs l → Held A f place C xs r → ((s : ℕ) → times s l + times s r ≤ 1) → Held A f place C xs (node i l r)
   held-over i l r e hl hr d = record {
     once = λ s. omega (arith, times-node s i l r, d s);
     within = λ s k. in-child s i l r k (λ p. hl .within s p) (λ p. hr .within s p);
@@ -81,66 +81,6 @@ all-times (s ∷ l) h = cons (h s (rw (eq-eqb s s refl) (omega arith))) (all-tim
 pub leafArm-of : (s v : ℕ) → s ≤ 65536 → leafArm s v ≡ arm (2 * s) 1 v v
 unfolding leafArm leafNumber
 leafArm-of s v h = let e : s % 2147483648 ≡ s = omega arith in rw e
-
-module _ {I : Type 0} (A : Axis Mark Box) (f : ℕ → Mark) where
-  pub overArm-of : (i : I) (l r : Tree ℕ I) → least r ≤ 65536 → weight l + weight r ≤ 65536 → overArm (least r) (armOf A f l) (armOf A f r) ≡ armOf A f (node i l r)
-  unfolding overArm innerNumber sum
-  overArm-of i l r h w =
-      let e : least r % 2147483648 ≡ least r = omega arith in
-      let k : (weight l + weight r) % 4294967296 ≡ weight l + weight r = omega arith in
-      rw (e, k)
-
-  module _ {place : ℕ → ℕ} {C n : ℕ} (g : Region place C n) where
-    -- A change leaves a tree alone where the slots whose records it touches name none of its inner nodes: they do not stand in it, or are its least.
-    module _ {P : ℕ → Type 0} {lo hi : ℕ} (low : runPlace C 0 ≤ lo) (high : hi ≤ runPlace C C) {xs ys : List ℕ} (a : Frame place P lo hi xs ys) (inC : (s : ℕ) → P s → s < C) where
-      holds-frame : (t : Tree ℕ I) → ((s : ℕ) → times s t ≤ 1) → ((s : ℕ) → 0 < times s t → s < C) → ((s : ℕ) → P s → (times s t ≡ 0) ⊎ (s ≡ least t))
-          → Holds A f place xs t → Holds A f place ys t
-      holds-frame (leaf s) once within out h = tt
-      holds-frame (node i l r) once within out h = (
-        frame-record g low high a inC (least r) (within (least r) (omega (arith, times-node (least r) i l r, times-least r))) (λ p. unnamed (least r) refl (out (least r) p)) ∙ h .0,
-        holds-frame l (λ s. omega (arith, once s, times-node s i l r)) (λ s k. within s (omega (arith, times-node s i l r))) (λ s p. left s (out s p)) (h .1),
-        holds-frame r (λ s. omega (arith, once s, times-node s i l r)) (λ s k. within s (omega (arith, times-node s i l r))) (λ s p. right s (out s p)) (h .2),
-      )
-        where
-          unnamed : (s : ℕ) → s ≡ least r → (times s (node i l r) ≡ 0) ⊎ (s ≡ least l) → ⊥
-          unnamed s e (inl z) = let p = subst (λ k. 0 < times k r) (sym e) (times-least r) in omega (arith, times-node s i l r)
-          unnamed s e (inr z) =
-              let p = subst (λ k. 0 < times k r) (sym e) (times-least r) in
-              let q = subst (λ k. 0 < times k l) (sym z) (times-least l) in
-              omega (arith, once s, times-node s i l r)
-
-          left : (s : ℕ) → (times s (node i l r) ≡ 0) ⊎ (s ≡ least l) → (times s l ≡ 0) ⊎ (s ≡ least l)
-          left s (inl z) = inl (omega (arith, times-node s i l r))
-          left s (inr z) = inr z
-
-          right : (s : ℕ) → (times s (node i l r) ≡ 0) ⊎ (s ≡ least l) → (times s r ≡ 0) ⊎ (s ≡ least r)
-          right s (inl z) = inl (omega (arith, times-node s i l r))
-          right s (inr z) = inl (let q = subst (λ k. 0 < times k l) (sym z) (times-least l) in omega (arith, once s, times-node s i l r))
-
-      pub held-frame : (t : Tree ℕ I) → ((s : ℕ) → P s → (times s t ≡ 0) ⊎ (s ≡ least t)) → Held A f place C xs t → Held A f place C ys t
-      held-frame t out h = record {
-        once = h .once;
-        within = h .within;
-        marked = λ s k. frame-mark g low high a inC s (h .within s k) ∙ h .marked s k;
-        records = holds-frame t (h .once) (h .within) out (h .records);
-      }
-
-    -- THE NODE: two trees held, with no slot in common, and the record of the node over them written
-    pub node-held : (i : I) (l r : Tree ℕ I) (xs : List ℕ) → length xs ≡ n → Held A f place C xs l → Held A f place C xs r → ((s : ℕ) → times s l + times s r ≤ 1)
-        → Held A f place C (putRecord xs (place (least r)) (armOf A f l) (armOf A f r)) (node i l r)
-    node-held i l r xs ln hl hr d =
-        let name = least r in
-        let inC : name < C = held-least hr in
-        let room : place name + 8 ≤ length xs = omega (arith, g .room name inC) in
-        let a = putRecord-frame place xs name (armOf A f l) (armOf A f r) room in
-        let z : runPlace C 0 ≤ runPlace C 0 = omega arith in
-        let fr = frame-run (runPlace C 0) (runPlace C C) a in
-        let top : runPlace C C ≤ runPlace C C = omega arith in
-        let ys : List ℕ = putRecord xs (place name) (armOf A f l) (armOf A f r) in
-        let kl : Held A f place C ys l =
-        held-frame z top fr (λ s e. rw e inC) l (λ s e. inl (let p = subst (λ k. 0 < times k r) (sym e) (times-least r) in omega (arith, d s))) hl in
-        let kr : Held A f place C ys r = held-frame z top fr (λ s e. rw e inC) r (λ s e. inr e) hr in
-        held-over i l r (putRecord-same place xs name (armOf A f l) (armOf A f r) room) kl kr d
 
 -- the slots that name a tree's inner nodes: all but its least
 abbrev pub Names : {I : Type 0} → Tree ℕ I → ℕ → Type 0
@@ -179,14 +119,22 @@ module _ {I : Type 0} where
     pub names-own : ((s : ℕ) → times s l + times s r ≤ 1) → (s : ℕ) → s ≡ least r → Names (node i l r) s
     names-own d s e = names-right d s (subst (λ q. 0 < times q r) (sym e) (times-least r))
 
--- What an operation leaves: the arm of a tree that the words hold, and all words as they were but for the records of the tree's names and run A.
-pub record Leaves {I : Type 0} (A : Axis Mark Box) (f : ℕ → Mark) (place : ℕ → ℕ) (C : ℕ) (xs : List ℕ) (a : Arm) (ys : List ℕ) (t : Tree ℕ I) : Type 0 where
-  pub is : a ≡ armOf A f t
-  pub held : Held A f place C ys t
-  pub frame : Frame place (Names t) (runPlace C 0) (runPlace C C) xs ys
+  -- a slot that does not stand in a tree, or is its least, names no node of it
+  pub names-none : (t : Tree ℕ I) (s : ℕ) → (times s t ≡ 0) ⊎ (s ≡ least t) → Names t s → ⊥
+  names-none t s (inl z) k = omega (arith, k .0)
+  names-none t s (inr e) k = k .1 e
 
--- A tree stays where the records of its names and the marks of its slots read the same.
 module _ {I : Type 0} (A : Axis Mark Box) (f : ℕ → Mark) where
+  pub overArm-of : (i : I) (l r : Tree ℕ I) → least r ≤ 65536 → weight l + weight r ≤ 65536
+      → overArm (least r) (armOf A f l) (armOf A f r) ≡ armOf A f (node i l r)
+  unfolding overArm innerNumber sum
+  overArm-of i l r h w =
+      let e : least r % 2147483648 ≡ least r = omega arith in
+      let k : (weight l + weight r) % 4294967296 ≡ weight l + weight r = omega arith in
+      rw (e, k)
+
+  -- A TREE DEPENDS ON ITS OWN WORDS ALONE: lists of words, of one length or not, that have the same records of its names and the same marks of its slots
+  -- hold it alike.
   holds-same : (place : ℕ → ℕ) (xs ys : List ℕ) (t : Tree ℕ I) → ((s : ℕ) → times s t ≤ 1)
       → ((s : ℕ) → Names t s → recordAt ys (place s) ≡ recordAt xs (place s)) → Holds A f place xs t → Holds A f place ys t
   holds-same place xs ys (leaf s) once same h = tt
@@ -205,3 +153,33 @@ module _ {I : Type 0} (A : Axis Mark Box) (f : ℕ → Mark) where
     marked = λ s k. mark s k ∙ h .marked s k;
     records = holds-same place xs ys t (h .once) same (h .records);
   }
+
+  module _ {place : ℕ → ℕ} {C n : ℕ} (g : Region place C n) where
+    -- A change leaves a tree alone where the slots whose records it touches name none of its inner nodes: they do not stand in it, or are its least.
+    pub held-frame : {P : ℕ → Type 0} {lo hi : ℕ} → runPlace C 0 ≤ lo → hi ≤ runPlace C C → {xs ys : List ℕ} → Frame place P lo hi xs ys
+        → ((s : ℕ) → P s → s < C) → (t : Tree ℕ I) → ((s : ℕ) → P s → (times s t ≡ 0) ⊎ (s ≡ least t)) → Held A f place C xs t → Held A f place C ys t
+    held-frame low high a inC t out h =
+        held-same t (λ s k. frame-record g low high a inC s (h .within s (k .0)) (λ p. names-none t s (out s p) k))
+        (λ s k. frame-mark g low high a inC s (h .within s k)) h
+
+    -- THE NODE: two trees held, with no slot in common, and the record of the node over them written
+    pub node-held : (i : I) (l r : Tree ℕ I) (xs : List ℕ) → length xs ≡ n → Held A f place C xs l → Held A f place C xs r
+        → ((s : ℕ) → times s l + times s r ≤ 1) → Held A f place C (putRecord xs (place (least r)) (armOf A f l) (armOf A f r)) (node i l r)
+    node-held i l r xs ln hl hr d =
+        let name = least r in
+        let inC : name < C = held-least hr in
+        let room : place name + 8 ≤ length xs = omega (arith, g .room name inC) in
+        let a = putRecord-frame place xs name (armOf A f l) (armOf A f r) in
+        let fr = frame-run (runPlace C 0) (runPlace C C) a in
+        let ys : List ℕ = putRecord xs (place name) (armOf A f l) (armOf A f r) in
+        let kl : Held A f place C ys l =
+        held-frame (omega arith) (omega arith) fr (λ s e. rw e inC) l
+        (λ s e. inl (let p = subst (λ k. 0 < times k r) (sym e) (times-least r) in omega (arith, d s))) hl in
+        let kr : Held A f place C ys r = held-frame (omega arith) (omega arith) fr (λ s e. rw e inC) r (λ s e. inr e) hr in
+        held-over i l r (putRecord-same place xs name (armOf A f l) (armOf A f r) room) kl kr d
+
+-- What an operation leaves: the arm of a tree that the words hold, and all words as they were but for the records of the tree's names and run A.
+pub record Leaves {I : Type 0} (A : Axis Mark Box) (f : ℕ → Mark) (place : ℕ → ℕ) (C : ℕ) (xs : List ℕ) (a : Arm) (ys : List ℕ) (t : Tree ℕ I) : Type 0 where
+  pub is : a ≡ armOf A f t
+  pub held : Held A f place C ys t
+  pub frame : Frame place (Names t) (runPlace C 0) (runPlace C C) xs ys

@@ -1,4 +1,5 @@
 pub mod Stores
+pub mod Unchanged
 pub mod Frames
 pub mod Counting
 pub mod Held
@@ -6,3 +7,7 @@ pub mod Spots
 pub mod Levels
 pub mod Missing
 pub mod Searching
+pub mod Without
+pub mod Turns
+pub mod Collecting
+pub mod Steps

@@ -1,6 +1,6 @@
--- On words that hold an ordered tree, the mirror of a count adds the model's count and visits: for main and auxiliary trees alike. Assumes nothing.
-use Prim.Native.Nat.{ℕ, zero, suc, _+_, _*_, _/_, _≤_, _<_}
-use mathlib.Core.Path.{_≡_, ap, _∙_}
+-- On words that hold an ordered tree, the mirror of a count adds the model's figures to any kind of tally: for main and auxiliary trees alike. Assumes nothing.
+use Prim.Native.Nat.{ℕ, zero, suc, _+_, _*_, _/_, _≤_}
+use mathlib.Core.Path.{_≡_, ap, sym, _∙_}
 use mathlib.Core.Bool.{Bool, true, false, not}
 use mathlib.Core.List.{List, _++_}
 use native.Mathlib.Omega.{arith}
@@ -19,14 +19,10 @@ use Rattle.model.proofs.Logic.{by-cases, clash, and-left, and-right, or-true-ri
 use Rattle.model.proofs.Sorted.{sorted-left, sorted-right}
 use Rattle.model.proofs.Tree.{weight-pos, all-least}
 use Rattle.model.proofs.Search.{cell-ordered, cells-follow, clear-none}
-use Rattle.table.specs.Tally.{visited, mostVisits, pack}
-use Rattle.table.proofs.Tallies.{visited-pack}
+use Rattle.table.specs.Tally.{visited}
 use Rattle.nodes.specs.Arms.{Arm, Record, arms, recordMissing, recordAt}
 use Rattle.nodes.specs.Holds.{number, armOf}
-use Rattle.nodes.specs.Count.{Kind, Side, sideAlong, lowRecord, lowNode, lowFrom, highRecord, highNode, highFrom, lowEnd, highEnd, openRecord, openNode, openFrom, countTree}
-
-visit-more : (k v : ℕ) → k ≤ 65536 → v < mostVisits → visited (pack k v) 0 ≡ pack k (v + 1)
-visit-more k v h i = let z : k + 0 ≡ k = omega arith in rw (visited-pack k v 0 (omega arith) (omega arith), z)
+use Rattle.nodes.specs.Count.{Kind, added, Side, sideAlong, lowRecord, lowNode, lowFrom, highRecord, highNode, highFrom, lowEnd, highEnd, openRecord, openNode, openFrom, countTree}
 
 -- a record that is read as the arms of two trees is there: no tree weighs nothing
 record-there : {I : Type 0} (A : Axis Mark Box) (f : ℕ → Mark) (xs : List ℕ) (at : ℕ) (l r : Tree ℕ I) → recordAt xs at ≡ arms (armOf A f l) (armOf A f r)
@@ -37,8 +33,15 @@ record-there A f xs at l r e =
     (λ t. le-ltb (length xs) (at + 8) (leb-true (at + 8) (length xs) t))
     (λ t. let z = ap (λ p. p .left .weight) (rw t at e) in absurd (omega (arith, z, weight-pos l)))
 
-module _ {I : Type 0} (K : Kind) (X : Axis Mark Box) (b : Box) (f : ℕ → Mark) (R : Register ℕ Box I) (O : AxisLaws (slotSpace f sheet) (slotAxis f X))
-    (xs : List ℕ) where
+-- a cell that begins past the side is clear of it
+pub clear-past : {M I : Type 0} (A : Axis M Box) (b : Box) (t : Tree M I) → A .toHigh b (A .at (least t)) ≡ false → clear A b t ≡ true
+clear-past A b t e = or-true-right (not (A .fromLow b (A .at (greatest t)))) (not (A .toHigh b (A .at (least t)))) (rw e)
+
+-- T is a tally, onto which a count's figures are added: those of two trees one after the other, in either order, and those of a node after its own visit
+module _ {I T : Type 0} (K : Kind T) (X : Axis Mark Box) (b : Box) (f : ℕ → Mark) (R : Register ℕ Box I) (O : AxisLaws (slotSpace f sheet) (slotAxis f X))
+    (xs : List ℕ) (add : Found → T → T) (add-both : (g h : Found) (tally : T) → add (together g h) tally ≡ add h (add g tally))
+    (add-swap : (g h : Found) (tally : T) → add g (add h tally) ≡ add h (add g tally))
+    (add-arrive : (g : Found) (tally : T) → add (arrive g) tally ≡ add g (K .visit tally)) where
   abbrev S : Side
   S = sideAlong X b
 
@@ -79,7 +82,7 @@ module _ {I : Type 0} (K : Kind) (X : Axis Mark Box) (b : Box) (f : ℕ → Mark
   goesOn-lasts l r s e = O .highFalls b (A .at (greatest l)) (A .at (least r)) (cells-follow (slotSpace f sheet) A O l r s) e
 
   -- a clear cell is visited, and adds nothing
-  found-clear : (t : Tree ℕ I) → Ordered t → clear A b t ≡ true → found t ≡ record { found = 0; visits = 1 }
+  pub found-clear : (t : Tree ℕ I) → Ordered t → clear A b t ≡ true → found t ≡ record { found = 0; visits = 1 }
   found-clear (leaf m) s e = let h = all-least {I = I} (leaf m) (clear-none {I = I} (slotSpace f sheet) A O b (leaf m) s e) in rw h
   found-clear (node i l r) s e =
       by-cases (inside A b (node i l r))
@@ -89,37 +92,29 @@ module _ {I : Type 0} (K : Kind) (X : Axis Mark Box) (b : Box) (f : ℕ → Mark
       clash e (rw (p, q)))
       (λ t. rw (t, e))
 
-  clear-after : (t : Tree ℕ I) → goesOn t ≡ false → clear A b t ≡ true
-  clear-after t e = or-true-right (not (begins t)) (not (goesOn t)) (rw e)
-
-  found-open : (i : I) (l r : Tree ℕ I) → inside A b (node i l r) ≡ false → clear A b (node i l r) ≡ false
-      → found (node i l r) ≡ arrive (together (found l) (found r))
-  found-open i l r t u = rw (t, u)
-
-  abbrev Room : Tree ℕ I → ℕ → ℕ → Type 0
-  Room t k v = (k + found t .found ≤ 65536) × (v + found t .visits ≤ mostVisits)
-
-  -- what the arrival at a tree inside the side is to make of a tally
-  abbrev pub Taken : ℕ → Tree ℕ I → Type 0
-  Taken base t = inside A b t ≡ true → (k v : ℕ) → Room t k v → K .take base (armOf X f t) (pack k v) ≡ pack (k + found t .found) (v + found t .visits)
+  -- what the arrival at a tree makes of a tally where the tree is inside the side, clear of it, begins past it: its figures are added
+  pub record Arrives (base : ℕ) (t : Tree ℕ I) : Type 0 where
+    pub takes : inside A b t ≡ true → (tally : T) → K .take base (armOf X f t) tally ≡ add (found t) tally
+    pub skips : clear A b t ≡ true → (tally : T) → K .skip (armOf X f t) tally ≡ add (found t) tally
+    pub passes : goesOn t ≡ false → (tally : T) → K .visit tally ≡ add (found t) tally
 
   -- the words hold a tree whose level begins at a word, and what stands beneath it
   abbrev pub Laid : ℕ → Tree ℕ I → Type 0
-  Laid base (leaf s) = Taken base (leaf s)
+  Laid base (leaf s) = Arrives base (leaf s)
   Laid base (node i l r) =
       (recordAt xs (K .place base (least r)) ≡ arms (armOf X f l) (armOf X f r))
-      × Taken base (node i l r) × Laid (K .deeper base) l × Laid (K .deeper base) r
+      × Arrives base (node i l r) × Laid (K .deeper base) l × Laid (K .deeper base) r
 
-  laid-taken : (base : ℕ) (t : Tree ℕ I) → Laid base t → Taken base t
-  laid-taken base (leaf s) h = h
-  laid-taken base (node i l r) h = h .1
+  laid-arrives : (base : ℕ) (t : Tree ℕ I) → Laid base t → Arrives base t
+  laid-arrives base (leaf s) h = h
+  laid-arrives base (node i l r) h = h .1
 
-  visits-some : (t : Tree ℕ I) → 1 ≤ found t .visits
-  visits-some (leaf s) = omega arith
-  visits-some (node i l r) =
-      by-cases (inside A b (node i l r))
-      (λ t. rw t (omega arith))
-      (λ t. rw t (by-cases (clear A b (node i l r)) (λ u. rw u (omega arith)) (λ u. rw u (omega arith))))
+  -- an opened node adds what its children do
+  opened-adds : (i : I) (l r : Tree ℕ I) → inside A b (node i l r) ≡ false → clear A b (node i l r) ≡ false → (tally : T)
+      → add (found (node i l r)) tally ≡ add (found r) (add (found l) (K .visit tally))
+  opened-adds i l r t u tally =
+      let is : found (node i l r) ≡ arrive (together (found l) (found r)) = rw (t, u) in
+      ap (λ g. add g tally) is ∙ add-arrive (together (found l) (found r)) tally ∙ add-both (found l) (found r) (K .visit tally)
 
   -- one node of each walk, on words that hold its record
   module _ (base : ℕ) (l r : Tree ℕ I) (e : recordAt xs (K .place base (least r)) ≡ arms (armOf X f l) (armOf X f r)) where
@@ -129,119 +124,87 @@ module _ {I : Type 0} (K : Kind) (X : Axis Mark Box) (b : Box) (f : ℕ → Mark
     half : (2 * least r + 1) / 2 ≡ least r
     half = omega arith
 
-    low-node : (n tally : ℕ) → lowFrom K S xs (suc n) base (2 * least r + 1) tally ≡ lowRecord K S (lowFrom K S xs n) base both tally
+    low-node : (n : ℕ) (tally : T) → lowFrom K S xs (suc n) base (2 * least r + 1) tally ≡ lowRecord K S (lowFrom K S xs n) base both tally
     unfolding lowFrom lowNode
     low-node n tally = rw (half, record-there X f xs (K .place base (least r)) l r e, e)
 
-    high-node : (n tally : ℕ) → highFrom K S xs (suc n) base (2 * least r + 1) tally ≡ highRecord K S (highFrom K S xs n) base both tally
+    high-node : (n : ℕ) (tally : T) → highFrom K S xs (suc n) base (2 * least r + 1) tally ≡ highRecord K S (highFrom K S xs n) base both tally
     unfolding highFrom highNode
     high-node n tally = rw (half, record-there X f xs (K .place base (least r)) l r e, e)
 
-    open-node : (n tally : ℕ) → openFrom K S xs (suc n) base (2 * least r + 1) tally ≡ openRecord K S xs (openFrom K S xs n) base both tally
+    open-node : (n : ℕ) (tally : T) → openFrom K S xs (suc n) base (2 * least r + 1) tally ≡ openRecord K S xs (openFrom K S xs n) base both tally
     unfolding openFrom openNode
     open-node n tally = rw (half, record-there X f xs (K .place base (least r)) l r e, e)
 
   -- beneath a node in which the side begins, and which ends on it, once it is visited
   low-adds : (n base : ℕ) (t : Tree ℕ I) → depth t ≤ n → Laid base t → Ordered t → begun t ≡ false → begins t ≡ true → lasts t ≡ true
-      → (k v : ℕ) → Room t k v → lowFrom K S xs n base (number t) (pack k (v + 1)) ≡ pack (k + found t .found) (v + found t .visits)
+      → (tally : T) → lowFrom K S xs n base (number t) (K .visit tally) ≡ add (found t) tally
   unfolding lowRecord
-  low-adds n base (leaf m) d h s o p q k v room = clash p o
-  low-adds zero base (node i l r) d h s o p q k v room = absurd (omega arith)
-  low-adds (suc n) base (node i l r) d h s o p q k v room =
+  low-adds n base (leaf m) d h s o p q tally = clash p o
+  low-adds zero base (node i l r) d h s o p q tally = absurd (omega arith)
+  low-adds (suc n) base (node i l r) d h s o p q tally =
       let sl = sorted-left (marks l) (marks r) s in
       let sr = sorted-right (marks l) (marks r) s in
-      let ql = goesOn-lasts l r s (lasts-goesOn r sr q) in
-      let on = lasts-goesOn (node i l r) s q in
-      let vl = visits-some l in
-      let vr = visits-some r in
-      let is = found-open i l r (rw o) (rw (p, on)) in
-      let hk = (rw is at room .0) in
-      let hv = (rw is at room .1) in
-      rw (is, low-node base l r (h .0) n (pack k (v + 1)))
-      (by-cases (begins l)
-      (λ t.
-      let br = begins-begun l r s t in
-      rw (
-        t,
-        laid-taken (K .deeper base) r (h .3) (rw (br, q)) k (v + 1) (omega arith, omega arith),
-        visit-more (k + found r .found) (v + 1 + found r .visits) (omega arith) (omega arith),
-        low-adds n (K .deeper base) l (omega arith) (h .2) sl o t ql (k + found r .found) (v + 1 + found r .visits) (omega arith, omega arith),
-      ) (omega arith))
-      (λ t.
-      let cl = found-clear l sl (rw t) in
-      let jk = (rw cl at hk) in
-      let jv = (rw cl at hv) in
-      rw (t, cl, visit-more k (v + 1) (omega arith) (omega arith))
+      let here = K .visit tally in
+      let al = laid-arrives (K .deeper base) l (h .2) in
+      let ar = laid-arrives (K .deeper base) r (h .3) in
+      low-node base l r (h .0) n here
+      ∙ by-cases (begins l)
+      (λ t. rw (t, ar .takes (rw (begins-begun l r s t, q)) here)
+      (low-adds n (K .deeper base) l (omega arith) (h .2) sl o t (goesOn-lasts l r s (lasts-goesOn r sr q)) (add (found r) here) ∙ add-swap (found l) (found r) here))
+      (λ t. rw (t, al .skips (rw t) here)
       (by-cases (begun r)
-      (λ u. rw (u, laid-taken (K .deeper base) r (h .3) (rw (u, q)) k (v + 1 + 1) (omega arith, omega arith)) (omega arith))
-      (λ u. rw (u, visit-more k (v + 1 + 1) (omega arith) (omega arith), low-adds n (K .deeper base) r (omega arith) (h .3) sr u p q k (v + 1 + 1) (omega arith, omega arith)) (omega arith)))))
+      (λ u. rw (u, ar .takes (rw (u, q)) (add (found l) here)))
+      (λ u. rw (u, low-adds n (K .deeper base) r (omega arith) (h .3) sr u p q (add (found l) here)))))
+      ∙ sym (opened-adds i l r (rw o) (rw (p, lasts-goesOn (node i l r) s q)) tally)
 
   -- beneath a node that begins on the side, and in which it ends, once it is visited
   high-adds : (n base : ℕ) (t : Tree ℕ I) → depth t ≤ n → Laid base t → Ordered t → begun t ≡ true → goesOn t ≡ true → lasts t ≡ false
-      → (k v : ℕ) → Room t k v → highFrom K S xs n base (number t) (pack k (v + 1)) ≡ pack (k + found t .found) (v + found t .visits)
+      → (tally : T) → highFrom K S xs n base (number t) (K .visit tally) ≡ add (found t) tally
   unfolding highRecord
-  high-adds n base (leaf m) d h s o p q k v room = clash p q
-  high-adds zero base (node i l r) d h s o p q k v room = absurd (omega arith)
-  high-adds (suc n) base (node i l r) d h s o p q k v room =
+  high-adds n base (leaf m) d h s o p q tally = clash p q
+  high-adds zero base (node i l r) d h s o p q tally = absurd (omega arith)
+  high-adds (suc n) base (node i l r) d h s o p q tally =
       let sl = sorted-left (marks l) (marks r) s in
       let sr = sorted-right (marks l) (marks r) s in
-      let br = begins-begun l r s (begun-begins l sl o) in
-      let on = begun-begins (node i l r) s o in
-      let vl = visits-some l in
-      let vr = visits-some r in
-      let is = found-open i l r (rw (o, q)) (rw (on, p)) in
-      let hk = (rw is at room .0) in
-      let hv = (rw is at room .1) in
-      rw (is, high-node base l r (h .0) n (pack k (v + 1)))
-      (by-cases (goesOn r)
-      (λ t.
-      let ql = goesOn-lasts l r s t in
-      rw (
+      let here = K .visit tally in
+      let al = laid-arrives (K .deeper base) l (h .2) in
+      let ar = laid-arrives (K .deeper base) r (h .3) in
+      high-node base l r (h .0) n here
+      ∙ by-cases (goesOn r)
+      (λ t. rw (
         t,
-        laid-taken (K .deeper base) l (h .2) (rw (o, ql)) k (v + 1) (omega arith, omega arith),
-        visit-more (k + found l .found) (v + 1 + found l .visits) (omega arith) (omega arith),
-        high-adds n (K .deeper base) r (omega arith) (h .3) sr br t q (k + found l .found) (v + 1 + found l .visits) (omega arith, omega arith),
-      ) (omega arith))
-      (λ t.
-      let cr = found-clear r sr (clear-after r t) in
-      let jk = (rw cr at hk) in
-      let jv = (rw cr at hv) in
-      rw (t, cr, visit-more k (v + 1) (omega arith) (omega arith))
+        al .takes (rw (o, goesOn-lasts l r s t)) here,
+        high-adds n (K .deeper base) r (omega arith) (h .3) sr (begins-begun l r s (begun-begins l sl o)) t q (add (found l) here),
+      ))
+      (λ t. rw t
       (by-cases (lasts l)
-      (λ u. rw (u, laid-taken (K .deeper base) l (h .2) (rw (o, u)) k (v + 1 + 1) (omega arith, omega arith)) (omega arith))
-      (λ u. rw (
-        u,
-        visit-more k (v + 1 + 1) (omega arith) (omega arith),
-        high-adds n (K .deeper base) l (omega arith) (h .2) sl o p u k (v + 1 + 1) (omega arith, omega arith),
-      ) (omega arith)))))
-
-  clear-adds : (t : Tree ℕ I) → Ordered t → clear A b t ≡ true → (k v : ℕ) → Room t k v → visited (pack k v) 0 ≡ pack (k + found t .found) (v + found t .visits)
-  clear-adds t s c k v room =
-      let is = found-clear t s c in
-      let hk = (rw is at room .0) in
-      let hv = (rw is at room .1) in
-      rw (is, visit-more k v (omega arith) (omega arith)) (omega arith)
+      (λ u. rw (u, al .takes (rw (o, u)) (K .visit here), ar .passes t here) (add-swap (found l) (found r) here))
+      (λ u. rw (u, high-adds n (K .deeper base) l (omega arith) (h .2) sl o p u (K .visit here), ar .passes t here) (add-swap (found l) (found r) here))))
+      ∙ sym (opened-adds i l r (rw (o, q)) (rw (begun-begins (node i l r) s o, p)) tally)
 
   -- the two children of a node where the ends of the side part
   low-end-adds : (base : ℕ) (t : Tree ℕ I) → depth t ≤ 40 → Laid base t → Ordered t → lasts t ≡ true
-      → (k v : ℕ) → Room t k v → lowEnd K S xs base (armOf X f t) (pack k v) ≡ pack (k + found t .found) (v + found t .visits)
+      → (tally : T) → lowEnd K S xs base (armOf X f t) tally ≡ add (found t) tally
   unfolding lowEnd
-  low-end-adds base t d h s q k v room =
+  low-end-adds base t d h s q tally =
+      let a = laid-arrives base t h in
       by-cases (begins t)
       (λ p. by-cases (begun t)
-      (λ o. rw (p, o) (laid-taken base t h (rw (o, q)) k v room))
-      (λ o. rw (p, o, visit-more k v (omega arith) (omega (arith, visits-some t))) (low-adds 40 base t d h s o p q k v room)))
-      (λ p. rw p (clear-adds t s (rw p) k v room))
+      (λ o. rw (p, o) (a .takes (rw (o, q)) tally))
+      (λ o. rw (p, o) (low-adds 40 base t d h s o p q tally)))
+      (λ p. rw p (a .skips (rw p) tally))
 
   high-end-adds : (base : ℕ) (t : Tree ℕ I) → depth t ≤ 40 → Laid base t → Ordered t → begun t ≡ true
-      → (k v : ℕ) → Room t k v → highEnd K S xs base (armOf X f t) (pack k v) ≡ pack (k + found t .found) (v + found t .visits)
+      → (tally : T) → highEnd K S xs base (armOf X f t) tally ≡ add (found t) tally
   unfolding highEnd
-  high-end-adds base t d h s o k v room =
+  high-end-adds base t d h s o tally =
+      let a = laid-arrives base t h in
       by-cases (goesOn t)
       (λ p. by-cases (lasts t)
-      (λ q. rw (p, q) (laid-taken base t h (rw (o, q)) k v room))
-      (λ q. rw (p, q, visit-more k v (omega arith) (omega (arith, visits-some t))) (high-adds 40 base t d h s o p q k v room)))
-      (λ p. rw p (clear-adds t s (clear-after t p) k v room))
+      (λ q. rw (p, q) (a .takes (rw (o, q)) tally))
+      (λ q. rw (p, q) (high-adds 40 base t d h s o p q tally)))
+      (λ p. rw p (a .passes p tally))
 
   -- a lone mark's cell that is not inside the side is clear of it
   leaf-clear : (m : ℕ) → inside {I = I} A b (leaf m) ≡ false → clear {I = I} A b (leaf m) ≡ true
@@ -254,7 +217,7 @@ module _ {I : Type 0} (K : Kind) (X : Axis Mark Box) (b : Box) (f : ℕ → Mark
   not-clear : (t : Tree ℕ I) → clear A b t ≡ false → (begins t ≡ true) × (goesOn t ≡ true)
   not-clear t e =
       by-cases (begins t)
-      (λ p. by-cases (goesOn t) (λ o. (p, o)) (λ o. clash (clear-after t o) e))
+      (λ p. by-cases (goesOn t) (λ o. (p, o)) (λ o. clash (clear-past A b t o) e))
       (λ p. let t : clear A b t ≡ true = (rw p) in clash t e)
 
   -- where the box's side is not the wrong way round
@@ -266,63 +229,62 @@ module _ {I : Type 0} (K : Kind) (X : Axis Mark Box) (b : Box) (f : ℕ → Mark
     past-begins t q = by-cases (begins t) (λ p. p) (λ p. clash (straight (A .at (greatest t)) p) q)
 
     -- beneath a node whose cell is neither inside the side nor clear of it, once it is visited
-    open-adds : (n base : ℕ) (t : Tree ℕ I) → depth t ≤ n → depth t ≤ 40 → Laid base t → Ordered t → inside A b t ≡ false → clear A b t ≡ false
-        → (k v : ℕ) → Room t k v → openFrom K S xs n base (number t) (pack k (v + 1)) ≡ pack (k + found t .found) (v + found t .visits)
+    open-adds : (n base : ℕ) (t : Tree ℕ I) → depth t ≤ n → depth t ≤ 40 → Laid base t → Ordered t → inside A b t ≡ false → begins t ≡ true → goesOn t ≡ true
+        → (tally : T) → openFrom K S xs n base (number t) (K .visit tally) ≡ add (found t) tally
     unfolding openRecord
-    open-adds n base (leaf m) d g h s i c k v room = clash (leaf-clear m i) c
-    open-adds zero base (node i l r) d g h s o c k v room = absurd (omega arith)
-    open-adds (suc n) base (node i l r) d g h s o c k v room =
+    open-adds n base (leaf m) d g h s i p o tally = let no : clear {I = I} A b (leaf m) ≡ false = rw (p, o) in clash (leaf-clear m i) no
+    open-adds zero base (node i l r) d g h s o p q tally = absurd (omega arith)
+    open-adds (suc n) base (node i l r) d g h s o p q tally =
         let sl = sorted-left (marks l) (marks r) s in
         let sr = sorted-right (marks l) (marks r) s in
-        let met = not-clear (node i l r) c in
-        let vl = visits-some l in
-        let vr = visits-some r in
-        let is = found-open i l r o c in
-        let hk = (rw is at room .0) in
-        let hv = (rw is at room .1) in
-        rw (is, open-node base l r (h .0) n (pack k (v + 1)))
-        (by-cases (begun r)
+        let here = K .visit tally in
+        let al = laid-arrives (K .deeper base) l (h .2) in
+        let ar = laid-arrives (K .deeper base) r (h .3) in
+        open-node base l r (h .0) n here
+        ∙ by-cases (begun r)
         (λ br. by-cases (lasts l)
         (λ ll. rw (
           br,
           ll,
-          low-end-adds (K .deeper base) l (omega arith) (h .2) sl ll k (v + 1) (omega arith, omega arith),
-          high-end-adds (K .deeper base) r (omega arith) (h .3) sr br (k + found l .found) (v + 1 + found l .visits) (omega arith, omega arith),
-        ) (omega arith))
+          low-end-adds (K .deeper base) l (omega arith) (h .2) sl ll here,
+          high-end-adds (K .deeper base) r (omega arith) (h .3) sr br (add (found l) here),
+        ))
         (λ ll.
         let gr = by-cases (goesOn r) (λ t. clash (goesOn-lasts l r s t) ll) (λ t. t) in
-        let cr = found-clear r sr (clear-after r gr) in
-        let jk = (rw cr at hk) in
-        let jv = (rw cr at hv) in
         rw (
           br,
           ll,
-          cr,
-          visit-more k (v + 1) (omega arith) (omega arith),
-          visit-more k (v + 1 + 1) (omega arith) (omega arith),
-          open-adds n (K .deeper base) l (omega arith) (omega arith) (h .2) sl (past-outside l ll)
-              (rw (past-begins l ll, met .1)) k (v + 1 + 1) (omega arith, omega arith),
-        ) (omega arith)))
+          open-adds n (K .deeper base) l (omega arith) (omega arith) (h .2) sl (past-outside l ll) (past-begins l ll) q (K .visit here),
+          ar .passes gr here,
+        ) (add-swap (found l) (found r) here)))
         (λ br.
         let bl = by-cases (begins l) (λ t. clash (begins-begun l r s t) br) (λ t. t) in
-        let cl = found-clear l sl (rw bl) in
-        let jk = (rw cl at hk) in
-        let jv = (rw cl at hv) in
         rw (
           br,
-          cl,
-          visit-more k (v + 1) (omega arith) (omega arith),
-          visit-more k (v + 1 + 1) (omega arith) (omega arith),
-          open-adds n (K .deeper base) r (omega arith) (omega arith) (h .3) sr (rw br)
-              (rw (met .0, straight (A .at (least r)) br)) k (v + 1 + 1) (omega arith, omega arith),
-        ) (omega arith)))
+          al .skips (rw bl) here,
+          open-adds n (K .deeper base) r (omega arith) (omega arith) (h .3) sr (rw br) p (straight (A .at (least r)) br) (add (found l) here),
+        ))
+        ∙ sym (opened-adds i l r o (rw (p, q)) tally)
 
-    pub count-adds : (base : ℕ) (t : Tree ℕ I) → depth t ≤ 40 → Laid base t → Ordered t → (k v : ℕ) → Room t k v
-        → countTree K S xs base (armOf X f t) (pack k v) ≡ pack (k + found t .found) (v + found t .visits)
+    pub count-adds : (base : ℕ) (t : Tree ℕ I) → depth t ≤ 40 → Laid base t → Ordered t → (tally : T) → countTree K S xs base (armOf X f t) tally ≡ add (found t) tally
     unfolding countTree
-    count-adds base t d h s k v room =
+    count-adds base t d h s tally =
+        let a = laid-arrives base t h in
         by-cases (inside A b t)
-        (λ i. rw i (laid-taken base t h i k v room))
+        (λ i. rw i (a .takes i tally))
         (λ i. by-cases (clear A b t)
-        (λ c. rw (i, c) (clear-adds t s c k v room))
-        (λ c. rw (i, c, visit-more k v (omega arith) (omega (arith, visits-some t))) (open-adds 40 base t d d h s i c k v room)))
+        (λ c. rw (i, c) (a .skips c tally))
+        (λ c. let met = not-clear t c in rw (i, c) (open-adds 40 base t d d h s i (met .0) (met .1) tally)))
+
+-- the tally in one number: sums go round at 2^64, so no bound is asked for
+pub added-both : (g h : Found) (tally : ℕ) → added (together g h) tally ≡ added h (added g tally)
+unfolding added
+added-both g h tally = omega arith
+
+pub added-swap : (g h : Found) (tally : ℕ) → added g (added h tally) ≡ added h (added g tally)
+unfolding added
+added-swap g h tally = omega arith
+
+pub added-arrive : (g : Found) (tally : ℕ) → added (arrive g) tally ≡ added g (visited tally 0)
+unfolding added visited
+added-arrive g tally = omega arith

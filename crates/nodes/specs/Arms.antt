@@ -2,11 +2,14 @@
 use Prim.Native.Nat.{ℕ, _+_, _*_, _%_}
 use mathlib.Core.Bool.{Bool}
 use mathlib.Core.List.{List, [], _∷_}
-use lib.Dec.{leb, ltb}
+use lib.Dec.{leb, ltb, eqb}
 use lib.ListN.{length, getD}
 use lib.Seq.{sets}
 use Rattle.model.specs.Lists.{if_then_else_}
-use Rattle.table.specs.Weights.{sum, lesser, greater}
+use Rattle.table.specs.Layout.{armWidth, recordWidth}
+use Rattle.nodes.specs.Weights.{sum}
+use Rattle.table.specs.Runs.{asSlot}
+use Rattle.table.specs.Words.{lesser, greater}
 
 -- "2 s for the leaf of slot s, 2 s + 1 for the inner node named s"; slots are far below 2^31
 unfoldable pub leafNumber : ℕ → ℕ
@@ -69,3 +72,11 @@ putRecord xs at l r =
     if leb (at + 8) (length xs)
     then sets xs at (l .node ∷ l .weight ∷ l .least ∷ l .greatest ∷ r .node ∷ r .weight ∷ r .least ∷ r .greatest ∷ [])
     else xs
+
+-- where the left, or the right, arm of the record at a word stands
+unfoldable pub childAt : ℕ → Bool → ℕ
+childAt at left = if left then at else at + armWidth
+
+-- the name of a node once slot s is struck: the least slot left in its right child, if that was s
+unfoldable pub renamed : ℕ → ℕ → ℕ → ℕ → ℕ
+renamed capacity name s first = if eqb name s then asSlot capacity first else name

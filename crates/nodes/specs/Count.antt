@@ -1,23 +1,30 @@
 -- The mirror of a count along one side of a box, for main and auxiliary trees alike: what a tree of either kind has of its own is a parameter. It goes
 -- down to the node where the ends of the side part, and from there beneath each child with one end to look for. Assumes nothing.
-use Prim.Native.Nat.{ℕ, zero, suc, _-_, _/_}
+use Prim.Native.Nat.{ℕ, zero, suc, _+_, _*_, _-_, _/_, _%_, _^_}
 use mathlib.Core.Path.{_≡_, refl}
 use mathlib.Core.Bool.{Bool, not, _&&_, _||_}
 use mathlib.Core.List.{List}
 use native.Mathlib.Omega.{arith}
 use Rattle.model.specs.Lists.{if_then_else_}
 use Rattle.model.specs.Axis.{Axis}
+use Rattle.model.specs.Register.{Found}
 use Rattle.model.specs.Sheet.{Mark, Box}
-use Rattle.table.specs.Layout.{deepest}
-use Rattle.table.specs.Tally.{visited, lost}
+use Rattle.table.specs.Limits.{deepest}
 use Rattle.nodes.specs.Arms.{Arm, Record, recordMissing, recordAt}
 
--- a kind of tree: where the record of a name stands in the level that begins at a word, where the next level begins, and what the arrival at a tree of a level,
--- inside the side, makes of a tally
-pub record Kind : Type 0 where
+-- a kind of tree: where the record of a name stands in the level that begins at a word, where the next level begins, and what an arrival makes of a tally: at a
+-- tree of a level, inside the side; at a tree clear of it; at any other, and at one that is known to lie past the side. And the tally of a search that met damage.
+pub record Kind (T : Type 0) : Type 0 where
   pub place : ℕ → ℕ → ℕ
   pub deeper : ℕ → ℕ
-  pub take : ℕ → Arm → ℕ → ℕ
+  pub take : ℕ → Arm → T → T
+  pub skip : Arm → T → T
+  pub visit : T → T
+  pub lost : T
+
+-- figures added to a tally in one number
+unfoldable pub added : Found → ℕ → ℕ
+added g tally = (tally + (4294967296 * g .found + g .visits)) % 2 ^ 64
 
 -- a side of a box: whether a coordinate has reached its low end, and has not passed its high end
 pub record Side : Type 0 where
@@ -27,7 +34,7 @@ pub record Side : Type 0 where
 abbrev pub sideAlong : Axis Mark Box → Box → Side
 sideAlong A b = record { fromLow = λ v. A .fromLow b v; toHigh = λ v. A .toHigh b v }
 
-module _ (K : Kind) (S : Side) where
+module _ {T : Type 0} (K : Kind T) (S : Side) where
   -- a coordinate before the side, and past it
   abbrev pub before : ℕ → Bool
   before v = not (S .fromLow v)
@@ -37,94 +44,95 @@ module _ (K : Kind) (S : Side) where
 
   -- from where a node's level begins, its number and a tally
   abbrev pub Beneath : Type 0
-  Beneath = ℕ → ℕ → ℕ → ℕ
+  Beneath = ℕ → ℕ → T → T
 
   -- beneath a node in which the side begins, and which ends on it
-  unfoldable pub lowRecord : Beneath → ℕ → Record → ℕ → ℕ
+  unfoldable pub lowRecord : Beneath → ℕ → Record → T → T
   lowRecord rec base p tally =
       if before (p .left .greatest)
-      then (if before (p .right .least) then rec (K .deeper base) (p .right .node) (visited (visited tally 0) 0) else K .take (K .deeper base) (p .right) (visited tally 0))
-      else rec (K .deeper base) (p .left .node) (visited (K .take (K .deeper base) (p .right) tally) 0)
+      then (if before (p .right .least) then rec (K .deeper base) (p .right .node) (K .visit (K .skip (p .left) tally))
+      else K .take (K .deeper base) (p .right) (K .skip (p .left) tally))
+      else rec (K .deeper base) (p .left .node) (K .visit (K .take (K .deeper base) (p .right) tally))
 
   -- beneath one that begins on the side, and in which it ends
-  unfoldable pub highRecord : Beneath → ℕ → Record → ℕ → ℕ
+  unfoldable pub highRecord : Beneath → ℕ → Record → T → T
   highRecord rec base p tally =
       if past (p .right .least)
-      then (if past (p .left .greatest) then rec (K .deeper base) (p .left .node) (visited (visited tally 0) 0) else K .take (K .deeper base) (p .left) (visited tally 0))
-      else rec (K .deeper base) (p .right .node) (visited (K .take (K .deeper base) (p .left) tally) 0)
+      then (if past (p .left .greatest) then rec (K .deeper base) (p .left .node) (K .visit (K .visit tally)) else K .take (K .deeper base) (p .left) (K .visit tally))
+      else rec (K .deeper base) (p .right .node) (K .visit (K .take (K .deeper base) (p .left) tally))
 
   module _ (xs : List ℕ) where
     unfoldable pub lowNode : Beneath → Beneath
     lowNode rec base n tally =
-        if recordMissing xs (K .place base (n / 2)) then lost else lowRecord rec base (recordAt xs (K .place base (n / 2))) tally
+        if recordMissing xs (K .place base (n / 2)) then K .lost else lowRecord rec base (recordAt xs (K .place base (n / 2))) tally
 
     unfoldable pub lowFrom : ℕ → Beneath
-    lowFrom zero base n tally = lost
+    lowFrom zero base n tally = K .lost
     lowFrom (suc f) base n tally = lowNode (lowFrom f) base n tally
 
     unfoldable pub highNode : Beneath → Beneath
     highNode rec base n tally =
-        if recordMissing xs (K .place base (n / 2)) then lost else highRecord rec base (recordAt xs (K .place base (n / 2))) tally
+        if recordMissing xs (K .place base (n / 2)) then K .lost else highRecord rec base (recordAt xs (K .place base (n / 2))) tally
 
     unfoldable pub highFrom : ℕ → Beneath
-    highFrom zero base n tally = lost
+    highFrom zero base n tally = K .lost
     highFrom (suc f) base n tally = highNode (highFrom f) base n tally
 
     -- the arrival at a tree that ends no later than the side, and at one that begins no earlier
-    unfoldable pub lowEnd : ℕ → Arm → ℕ → ℕ
+    unfoldable pub lowEnd : ℕ → Arm → T → T
     lowEnd base a tally =
-        if before (a .greatest) then visited tally 0
-        else (if before (a .least) then lowFrom deepest base (a .node) (visited tally 0) else K .take base a tally)
+        if before (a .greatest) then K .skip a tally
+        else (if before (a .least) then lowFrom deepest base (a .node) (K .visit tally) else K .take base a tally)
 
-    unfoldable pub highEnd : ℕ → Arm → ℕ → ℕ
+    unfoldable pub highEnd : ℕ → Arm → T → T
     highEnd base a tally =
-        if past (a .least) then visited tally 0
-        else (if past (a .greatest) then highFrom deepest base (a .node) (visited tally 0) else K .take base a tally)
+        if past (a .least) then K .visit tally
+        else (if past (a .greatest) then highFrom deepest base (a .node) (K .visit tally) else K .take base a tally)
 
     -- beneath a node whose cell is neither inside the side nor clear of it: the right child alone meets the side, or the left one alone, or its ends part here
-    unfoldable pub openRecord : Beneath → ℕ → Record → ℕ → ℕ
+    unfoldable pub openRecord : Beneath → ℕ → Record → T → T
     openRecord rec base p tally =
-        if before (p .right .least) then rec (K .deeper base) (p .right .node) (visited (visited tally 0) 0)
-        else (if past (p .left .greatest) then rec (K .deeper base) (p .left .node) (visited (visited tally 0) 0)
+        if before (p .right .least) then rec (K .deeper base) (p .right .node) (K .visit (K .skip (p .left) tally))
+        else (if past (p .left .greatest) then rec (K .deeper base) (p .left .node) (K .visit (K .visit tally))
         else highEnd (K .deeper base) (p .right) (lowEnd (K .deeper base) (p .left) tally))
 
     unfoldable pub openNode : Beneath → Beneath
     openNode rec base n tally =
-        if recordMissing xs (K .place base (n / 2)) then lost else openRecord rec base (recordAt xs (K .place base (n / 2))) tally
+        if recordMissing xs (K .place base (n / 2)) then K .lost else openRecord rec base (recordAt xs (K .place base (n / 2))) tally
 
     unfoldable pub openFrom : ℕ → Beneath
-    openFrom zero base n tally = lost
+    openFrom zero base n tally = K .lost
     openFrom (suc f) base n tally = openNode (openFrom f) base n tally
 
     -- the arrival at a tree, from where its level begins, its arm and a tally
-    unfoldable pub countTree : ℕ → Arm → ℕ → ℕ
+    unfoldable pub countTree : ℕ → Arm → T → T
     countTree base a tally =
         if S .fromLow (a .least) && S .toHigh (a .greatest) then K .take base a tally
-        else (if before (a .greatest) || past (a .least) then visited tally 0 else openFrom deepest base (a .node) (visited tally 0))
+        else (if before (a .greatest) || past (a .least) then K .skip a tally else openFrom deepest base (a .node) (K .visit tally))
 
-    pub lowFrom-zero : (f : ℕ) → f ≡ 0 → (base n tally : ℕ) → lowFrom f base n tally ≡ lost
+    pub lowFrom-zero : (f : ℕ) → f ≡ 0 → (base n : ℕ) (tally : T) → lowFrom f base n tally ≡ K .lost
     unfolding lowFrom
     lowFrom-zero f e base n tally = rw e
 
-    pub lowFrom-suc : (f : ℕ) → (f ≡ 0 → ⊥) → (base n tally : ℕ) → lowFrom f base n tally ≡ lowNode (lowFrom (f - 1)) base n tally
+    pub lowFrom-suc : (f : ℕ) → (f ≡ 0 → ⊥) → (base n : ℕ) (tally : T) → lowFrom f base n tally ≡ lowNode (lowFrom (f - 1)) base n tally
     unfolding lowFrom
     lowFrom-suc zero h base n tally = absurd (h refl)
     lowFrom-suc (suc f) h base n tally = let e : suc f - 1 ≡ f = omega arith in rw e
 
-    pub highFrom-zero : (f : ℕ) → f ≡ 0 → (base n tally : ℕ) → highFrom f base n tally ≡ lost
+    pub highFrom-zero : (f : ℕ) → f ≡ 0 → (base n : ℕ) (tally : T) → highFrom f base n tally ≡ K .lost
     unfolding highFrom
     highFrom-zero f e base n tally = rw e
 
-    pub highFrom-suc : (f : ℕ) → (f ≡ 0 → ⊥) → (base n tally : ℕ) → highFrom f base n tally ≡ highNode (highFrom (f - 1)) base n tally
+    pub highFrom-suc : (f : ℕ) → (f ≡ 0 → ⊥) → (base n : ℕ) (tally : T) → highFrom f base n tally ≡ highNode (highFrom (f - 1)) base n tally
     unfolding highFrom
     highFrom-suc zero h base n tally = absurd (h refl)
     highFrom-suc (suc f) h base n tally = let e : suc f - 1 ≡ f = omega arith in rw e
 
-    pub openFrom-zero : (f : ℕ) → f ≡ 0 → (base n tally : ℕ) → openFrom f base n tally ≡ lost
+    pub openFrom-zero : (f : ℕ) → f ≡ 0 → (base n : ℕ) (tally : T) → openFrom f base n tally ≡ K .lost
     unfolding openFrom
     openFrom-zero f e base n tally = rw e
 
-    pub openFrom-suc : (f : ℕ) → (f ≡ 0 → ⊥) → (base n tally : ℕ) → openFrom f base n tally ≡ openNode (openFrom (f - 1)) base n tally
+    pub openFrom-suc : (f : ℕ) → (f ≡ 0 → ⊥) → (base n : ℕ) (tally : T) → openFrom f base n tally ≡ openNode (openFrom (f - 1)) base n tally
     unfolding openFrom
     openFrom-suc zero h base n tally = absurd (h refl)
     openFrom-suc (suc f) h base n tally = let e : suc f - 1 ≡ f = omega arith in rw e

@@ -1,9 +1,17 @@
--- What the code's arms and records mean, of either kind of node. Assumes nothing.
+-- What the code's arms and records mean, with and without their kind. Assumes nothing.
 use Rattle.nodes.specs.Arms.{Arm, arm, Record, arms}
+use Rattle.nodes.specs.declared.arm.Arm as declaredArm
+use Rattle.nodes.specs.declared.arm.Record as declaredRecord
 use Rattle.nodes.specs.declared.primary.PrimaryArm.{PrimaryArm}
 use Rattle.nodes.specs.declared.primary.PrimaryRecord.{PrimaryRecord}
 use Rattle.nodes.specs.declared.secondary.SecondaryArm.{SecondaryArm}
 use Rattle.nodes.specs.declared.secondary.SecondaryRecord.{SecondaryRecord}
+
+abbrev pub armValue : declaredArm.Arm → Arm
+armValue a = arm (a .node) (a .weight) (a .least) (a .greatest)
+
+abbrev pub recordValue : declaredRecord.Record → Record
+recordValue p = arms (armValue (p .left)) (armValue (p .right))
 
 abbrev pub secondaryArm : SecondaryArm → Arm
 secondaryArm a = arm (a .node .0) (a .weight) (a .least) (a .greatest)

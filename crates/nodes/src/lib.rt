@@ -1,4 +1,6 @@
-// Nodes of main and auxiliary trees in the words of a table: numbers, arms and records (docs/LAYOUT.md). Every function is total on every run of words; an
-// arm and a record have one test each for all their words.
+// Nodes of main and auxiliary trees in the words of a table: weights, numbers, arms and records (docs/LAYOUT.md), and the collection of a tree's slots.
+pub mod arm;
+mod collect;
 pub mod primary;
 pub mod secondary;
+pub mod weights;

@@ -1,25 +1,21 @@
-// Nodes of the main tree (000's primary nodes): numbers, arms and records, and the arms of their auxiliary trees.
+// Nodes of the main tree (000's primary nodes): their numbers, arms and records, and the arms of their auxiliary trees. What is done with an arm or a record is `arm`'s; here
+// it has its kind.
 ghost use mathlib.Core.Path.{_≡_};
+ghost use mathlib.Core.Bool.{true};
 ghost use Prim.Native.Nat.{_+_, _/_, _%_, _<_, _≤_, _^_};
 ghost use lib.Dec.{eqb};
 ghost use lib.ListN.{length};
-ghost use Rattle.table.specs.Layout.{mainPlace, auxiliaryPlace};
-ghost use Rattle.nodes.specs.Arms.{
-  leafNumber,
-  innerNumber,
-  noArm,
-  leafArm,
-  overArm,
-  grownArm,
-  armAt,
-  putArm,
-  recordMissing,
-  recordAt,
-  putRecord,
-};
-ghost use Rattle.nodes.specs.Values.{primaryArm, primaryRecord, secondaryArm};
+ghost use Rattle.table.specs.After.{after};
+ghost use Rattle.table.specs.Layout.{armWidth, recordWidth, mainPlace, auxiliaryPlace, runsEnd};
+ghost use Rattle.nodes.specs.Arms.{leafNumber, innerNumber, noArm, leafArm, overArm, grownArm, armAt, putArm, recordMissing, recordAt, putRecord, childAt};
+ghost use Rattle.nodes.specs.Collect.{gather♯};
+ghost use Rattle.nodes.specs.Values.{armValue, primaryArm, primaryRecord, secondaryArm};
+use crate::arm;
+use crate::arm::Arm;
+use crate::arm::Record;
+use crate::collect;
 use crate::secondary::SecondaryArm;
-use table::weights;
+use table::layout;
 
 // A node's number: 2 s for the leaf of slot s, 2 s + 1 for the inner node named s.
 pub struct Primary(pub u32);
@@ -42,13 +38,13 @@ impl Primary {
     pub fn leaf(s: u32) -> Primary
         ensures { λ r. ⌜ r .0 ≡ leafNumber s ⌝ }
     {
-        Primary(2 * (s % 2147483648))
+        Primary(arm::leaf_number(s))
     }
 
     pub fn inner(name: u32) -> Primary
         ensures { λ r. ⌜ r .0 ≡ innerNumber name ⌝ }
     {
-        Primary(2 * (name % 2147483648) + 1)
+        Primary(arm::inner_number(name))
     }
 
     pub fn is_leaf(self) -> bool
@@ -63,133 +59,172 @@ impl Primary {
     {
         self.0 / 2
     }
+
+    // Whether the slots of its tree, of that weight, but `but` are `many`: some, and no more than the capacity. They stand in run A then, in order.
+    pub fn gather(self, t: &mut [u32], capacity: u32, weight: u32, but: u32, many: u32) -> bool
+        requires { ⌜ (0 < capacity) × (runsEnd capacity ≤ length (now t)) ⌝ }
+        ensures is { λ r. ⌜ after r (now (t .exit)) ≡ gather♯ mainPlace capacity but many weight (self .0) (now (t .entry)) ⌝ }
+        ensures fits { λ r. ⌜ (r ≡ true → (0 < many) × (many ≤ capacity)) ⌝ }
+    {
+        collect::gather(
+            t,
+            layout::HEADER + layout::MARK,
+            layout::SLOT,
+            capacity,
+            self.0,
+            weight,
+            but,
+            many,
+        )
+    }
 }
 
 impl PrimaryArm {
+    // An arm as one of this kind, and without its kind.
+    fn of(a: Arm) -> PrimaryArm
+        ensures { λ r. ⌜ primaryArm r ≡ armValue a ⌝ }
+    {
+        PrimaryArm {
+            node: Primary(a.node),
+            weight: a.weight,
+            least: a.least,
+            greatest: a.greatest,
+        }
+    }
+
+    pub fn bare(self) -> Arm
+        ensures { λ r. ⌜ armValue r ≡ primaryArm self ⌝ }
+    {
+        let node = self.node;
+        Arm {
+            node: node.0,
+            weight: self.weight,
+            least: self.least,
+            greatest: self.greatest,
+        }
+    }
+
     pub fn none() -> PrimaryArm
         ensures { λ r. ⌜ primaryArm r ≡ noArm ⌝ }
     {
-        PrimaryArm {
-            node: Primary(0),
-            weight: 0,
-            least: 0,
-            greatest: 0,
-        }
+        PrimaryArm::of(Arm::none())
     }
 
     // The leaf of slot s, at the coordinate v.
     pub fn leaf(s: u32, v: u32) -> PrimaryArm
         ensures { λ r. ⌜ primaryArm r ≡ leafArm s v ⌝ }
     {
-        let node = Primary::leaf(s);
-        PrimaryArm {
-            node,
-            weight: 1,
-            least: v,
-            greatest: v,
-        }
+        PrimaryArm::of(Arm::leaf(s, v))
     }
 
     // The inner node of that name over two trees.
     pub fn over(name: u32, l: PrimaryArm, r: PrimaryArm) -> PrimaryArm
         ensures { λ a. ⌜ primaryArm a ≡ overArm name (primaryArm l) (primaryArm r) ⌝ }
     {
-        let node = Primary::inner(name);
-        let weight = weights::sum(l.weight, r.weight);
-        PrimaryArm {
-            node,
-            weight,
-            least: l.least,
-            greatest: r.greatest,
-        }
+        PrimaryArm::of(Arm::over(name, l.bare(), r.bare()))
     }
 
     // The same root with one mark more, at the coordinate v.
     pub fn grown(self, v: u32) -> PrimaryArm
         ensures { λ r. ⌜ primaryArm r ≡ grownArm (primaryArm self) v ⌝ }
     {
-        let node = self.node;
-        let weight = weights::sum(self.weight, 1);
-        let least = weights::lesser(self.least, v);
-        let greatest = weights::greater(self.greatest, v);
-        PrimaryArm {
-            node,
-            weight,
-            least,
-            greatest,
-        }
+        let a = self.bare();
+        PrimaryArm::of(a.grown(v))
     }
 
-    // The arm at the word `at`; that of the main tree's root stands at header::ROOT.
+    // The arm at the word `at`, which is there; that of the main tree's root stands at layout::ROOT.
+    pub fn load(t: &[u32], at: usize) -> PrimaryArm
+        requires { ⌜ at + armWidth ≤ length (now t) ⌝ }
+        ensures { λ r. ⌜ primaryArm r ≡ armAt (now (t .entry)) at ⌝ }
+    {
+        PrimaryArm::of(Arm::load(t, at))
+    }
+
+    pub fn store(t: &mut [u32], at: usize, a: PrimaryArm)
+        requires { ⌜ at + armWidth ≤ length (now t) ⌝ }
+        ensures { λ _. ⌜ now (t .exit) ≡ putArm (now (t .entry)) at (primaryArm a) ⌝ }
+    {
+        Arm::store(t, at, a.bare());
+    }
+
+    // The same where the words may not be there: no tree is read then, and nothing is written.
     pub fn at(t: &[u32], at: usize) -> PrimaryArm
         requires { ⌜ at < 2 ^ 60 ⌝ }
         ensures { λ r. ⌜ primaryArm r ≡ armAt (now (t .entry)) at ⌝ }
     {
-        if at + 4 <= t.len() {
-            PrimaryArm {
-                node: Primary(t[at]),
-                weight: t[at + 1],
-                least: t[at + 2],
-                greatest: t[at + 3],
-            }
-        } else {
-            PrimaryArm::none()
+        if at + layout::ARM <= t.len() {
+            return PrimaryArm::load(t, at);
         }
+        PrimaryArm::none()
     }
 
     pub fn put(t: &mut [u32], at: usize, a: PrimaryArm)
         requires { ⌜ at < 2 ^ 60 ⌝ }
         ensures { λ _. ⌜ now (t .exit) ≡ putArm (now (t .entry)) at (primaryArm a) ⌝ }
     {
-        if at + 4 <= t.len() {
-            let n = a.node;
-            t[at] = n.0;
-            t[at + 1] = a.weight;
-            t[at + 2] = a.least;
-            t[at + 3] = a.greatest;
+        if at + layout::ARM <= t.len() {
+            PrimaryArm::store(t, at, a);
         }
     }
 }
 
 impl PrimaryRecord {
-    // Whether the words lack the record of that name; the one of name 0 takes words 67 to 74. (What the name is compared with stays the same on a walk, which
-    // then has it ready.)
+    // Whether the words lack the record of that name. (What the name is compared with stays the same on a walk, which then has it ready.)
     pub fn is_missing(t: &[u32], name: u32) -> bool
         ensures { λ r. ⌜ r ≡ recordMissing (now (t .entry)) (mainPlace name) ⌝ }
     {
-        if t.len() < 75 {
+        if t.len() < layout::HEADER + layout::MARK + layout::RECORD {
             return true;
         }
-        (t.len() - 75) / 16 < (name as usize)
+        (t.len() - (layout::HEADER + layout::MARK + layout::RECORD)) / layout::SLOT
+            < (name as usize)
     }
 
-    // The record of that name, which the caller knows to be there.
-    pub fn present(t: &[u32], name: u32) -> PrimaryRecord
-        requires { ⌜ mainPlace name + 8 ≤ length (now t) ⌝ }
+    // The record of the inner node of that name, which is there.
+    pub fn load(t: &[u32], name: u32) -> PrimaryRecord
+        requires { ⌜ mainPlace name + recordWidth ≤ length (now t) ⌝ }
         ensures { λ r. ⌜ primaryRecord r ≡ recordAt (now (t .entry)) (mainPlace name) ⌝ }
     {
-        let at = 67 + 16 * (name as usize);
-        let left = PrimaryArm {
-            node: Primary(t[at]),
-            weight: t[at + 1],
-            least: t[at + 2],
-            greatest: t[at + 3],
-        };
-        let right = PrimaryArm {
-            node: Primary(t[at + 4]),
-            weight: t[at + 5],
-            least: t[at + 6],
-            greatest: t[at + 7],
-        };
+        let p = Record::load(
+            t,
+            layout::HEADER + layout::MARK + layout::SLOT * (name as usize),
+        );
+        let left = PrimaryArm::of(p.left);
+        let right = PrimaryArm::of(p.right);
         PrimaryRecord { left, right }
     }
 
-    // The record of the inner node of that name, in its slot.
+    pub fn store(t: &mut [u32], name: u32, l: PrimaryArm, r: PrimaryArm)
+        requires { ⌜ mainPlace name + recordWidth ≤ length (now t) ⌝ }
+        ensures { λ _. ⌜ now (t .exit) ≡ putRecord (now (t .entry)) (mainPlace name) (primaryArm l) (primaryArm r) ⌝ }
+    {
+        Record::store(
+            t,
+            layout::HEADER + layout::MARK + layout::SLOT * (name as usize),
+            l.bare(),
+            r.bare(),
+        );
+    }
+
+    // Where its left, or its right, arm stands.
+    pub fn child(name: u32, left: bool) -> usize
+        ensures is { λ r. ⌜ r ≡ childAt (mainPlace name) left ⌝ }
+        ensures small { λ r. ⌜ r < 2 ^ 40 ⌝ }
+    {
+        Record::child(
+            layout::HEADER + layout::MARK + layout::SLOT * (name as usize),
+            left,
+        )
+    }
+
+    // The same where the words may not be there: no trees are read then, and nothing is written.
     pub fn at(t: &[u32], name: u32) -> PrimaryRecord
         ensures { λ r. ⌜ primaryRecord r ≡ recordAt (now (t .entry)) (mainPlace name) ⌝ }
     {
-        if 67 + 16 * (name as usize) + 8 <= t.len() {
-            return PrimaryRecord::present(t, name);
+        if layout::HEADER + layout::MARK + layout::SLOT * (name as usize) + layout::RECORD
+            <= t.len()
+        {
+            return PrimaryRecord::load(t, name);
         }
         let left = PrimaryArm::none();
         let right = PrimaryArm::none();
@@ -199,31 +234,60 @@ impl PrimaryRecord {
     pub fn put(t: &mut [u32], name: u32, l: PrimaryArm, r: PrimaryArm)
         ensures { λ _. ⌜ now (t .exit) ≡ putRecord (now (t .entry)) (mainPlace name) (primaryArm l) (primaryArm r) ⌝ }
     {
-        let at = 67 + 16 * (name as usize);
-        if at + 8 <= t.len() {
-            let n = l.node;
-            let k = r.node;
-            t[at] = n.0;
-            t[at + 1] = l.weight;
-            t[at + 2] = l.least;
-            t[at + 3] = l.greatest;
-            t[at + 4] = k.0;
-            t[at + 5] = r.weight;
-            t[at + 6] = r.least;
-            t[at + 7] = r.greatest;
+        if layout::HEADER + layout::MARK + layout::SLOT * (name as usize) + layout::RECORD
+            <= t.len()
+        {
+            PrimaryRecord::store(t, name, l, r);
         }
     }
 
-    // The arm of the auxiliary tree of that node.
+    // Where the arm of the auxiliary tree of that node stands.
+    pub fn auxiliary_place(name: u32) -> usize
+        ensures is { λ r. ⌜ r ≡ auxiliaryPlace name ⌝ }
+        ensures small { λ r. ⌜ r < 2 ^ 40 ⌝ }
+    {
+        layout::HEADER + layout::MARK + layout::RECORD + layout::SLOT * (name as usize)
+    }
+
+    // The arm of the auxiliary tree of that node, which is there.
+    pub fn load_auxiliary(t: &[u32], name: u32) -> SecondaryArm
+        requires { ⌜ auxiliaryPlace name + armWidth ≤ length (now t) ⌝ }
+        ensures { λ r. ⌜ secondaryArm r ≡ armAt (now (t .entry)) (auxiliaryPlace name) ⌝ }
+    {
+        SecondaryArm::load(
+            t,
+            layout::HEADER + layout::MARK + layout::RECORD + layout::SLOT * (name as usize),
+        )
+    }
+
+    pub fn store_auxiliary(t: &mut [u32], name: u32, a: SecondaryArm)
+        requires { ⌜ auxiliaryPlace name + armWidth ≤ length (now t) ⌝ }
+        ensures { λ _. ⌜ now (t .exit) ≡ putArm (now (t .entry)) (auxiliaryPlace name) (secondaryArm a) ⌝ }
+    {
+        SecondaryArm::store(
+            t,
+            layout::HEADER + layout::MARK + layout::RECORD + layout::SLOT * (name as usize),
+            a,
+        );
+    }
+
+    // The same where the words may not be there.
     pub fn auxiliary(t: &[u32], name: u32) -> SecondaryArm
         ensures { λ r. ⌜ secondaryArm r ≡ armAt (now (t .entry)) (auxiliaryPlace name) ⌝ }
     {
-        SecondaryArm::at(t, 75 + 16 * (name as usize))
+        SecondaryArm::at(
+            t,
+            layout::HEADER + layout::MARK + layout::RECORD + layout::SLOT * (name as usize),
+        )
     }
 
     pub fn put_auxiliary(t: &mut [u32], name: u32, a: SecondaryArm)
         ensures { λ _. ⌜ now (t .exit) ≡ putArm (now (t .entry)) (auxiliaryPlace name) (secondaryArm a) ⌝ }
     {
-        SecondaryArm::put(t, 75 + 16 * (name as usize), a);
+        SecondaryArm::put(
+            t,
+            layout::HEADER + layout::MARK + layout::RECORD + layout::SLOT * (name as usize),
+            a,
+        );
     }
 }

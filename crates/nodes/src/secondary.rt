@@ -1,12 +1,20 @@
-// Nodes of auxiliary trees (000's secondary nodes): numbers, arms and records.
+// Nodes of auxiliary trees (000's secondary nodes): their numbers, arms and records. What is done with an arm or a record is `arm`'s; here
+// it has its kind.
 ghost use mathlib.Core.Path.{_≡_};
+ghost use mathlib.Core.Bool.{true};
 ghost use Prim.Native.Nat.{_+_, _/_, _%_, _<_, _≤_, _^_};
 ghost use lib.Dec.{eqb};
 ghost use lib.ListN.{length};
-ghost use Rattle.table.specs.Layout.{recordPlace};
-ghost use Rattle.nodes.specs.Arms.{leafNumber, innerNumber, noArm, leafArm, overArm, grownArm, armAt, putArm, recordMissing, recordAt, putRecord};
-ghost use Rattle.nodes.specs.Values.{secondaryArm, secondaryRecord};
-use table::weights;
+ghost use Rattle.table.specs.After.{after};
+ghost use Rattle.table.specs.Layout.{armWidth, recordWidth, recordPlace, runsEnd, levelEnd};
+ghost use Rattle.nodes.specs.Arms.{leafNumber, innerNumber, noArm, leafArm, overArm, grownArm, armAt, putArm, recordMissing, recordAt, putRecord, childAt};
+ghost use Rattle.nodes.specs.Collect.{gather♯};
+ghost use Rattle.nodes.specs.Values.{armValue, secondaryArm, secondaryRecord};
+use crate::arm;
+use crate::arm::Arm;
+use crate::arm::Record;
+use crate::collect;
+use table::layout;
 
 // A node's number: 2 s for the leaf of slot s, 2 s + 1 for the inner node named s.
 pub struct Secondary(pub u32);
@@ -29,13 +37,13 @@ impl Secondary {
     pub fn leaf(s: u32) -> Secondary
         ensures { λ r. ⌜ r .0 ≡ leafNumber s ⌝ }
     {
-        Secondary(2 * (s % 2147483648))
+        Secondary(arm::leaf_number(s))
     }
 
     pub fn inner(name: u32) -> Secondary
         ensures { λ r. ⌜ r .0 ≡ innerNumber name ⌝ }
     {
-        Secondary(2 * (name % 2147483648) + 1)
+        Secondary(arm::inner_number(name))
     }
 
     pub fn is_leaf(self) -> bool
@@ -50,90 +58,119 @@ impl Secondary {
     {
         self.0 / 2
     }
+
+    // Whether the slots of its tree, of that weight, but `but` are `many`: some, and no more than the capacity. They stand in run A then, in order.
+    pub fn gather(
+        self,
+        t: &mut [u32],
+        base: u32,
+        capacity: u32,
+        weight: u32,
+        but: u32,
+        many: u32,
+    ) -> bool
+        requires { ⌜ (runsEnd capacity ≤ length (now t)) × (levelEnd base capacity ≤ length (now t)) ⌝ }
+        ensures is { λ r. ⌜ after r (now (t .exit)) ≡ gather♯ (recordPlace base) capacity but many weight (self .0) (now (t .entry)) ⌝ }
+        ensures fits { λ r. ⌜ (r ≡ true → (0 < many) × (many ≤ capacity)) ⌝ }
+    {
+        collect::gather(
+            t,
+            (base as usize),
+            layout::RECORD,
+            capacity,
+            self.0,
+            weight,
+            but,
+            many,
+        )
+    }
 }
 
 impl SecondaryArm {
+    // An arm as one of this kind, and without its kind.
+    fn of(a: Arm) -> SecondaryArm
+        ensures { λ r. ⌜ secondaryArm r ≡ armValue a ⌝ }
+    {
+        SecondaryArm {
+            node: Secondary(a.node),
+            weight: a.weight,
+            least: a.least,
+            greatest: a.greatest,
+        }
+    }
+
+    pub fn bare(self) -> Arm
+        ensures { λ r. ⌜ armValue r ≡ secondaryArm self ⌝ }
+    {
+        let node = self.node;
+        Arm {
+            node: node.0,
+            weight: self.weight,
+            least: self.least,
+            greatest: self.greatest,
+        }
+    }
+
     pub fn none() -> SecondaryArm
         ensures { λ r. ⌜ secondaryArm r ≡ noArm ⌝ }
     {
-        SecondaryArm {
-            node: Secondary(0),
-            weight: 0,
-            least: 0,
-            greatest: 0,
-        }
+        SecondaryArm::of(Arm::none())
     }
 
     // The leaf of slot s, at the coordinate v.
     pub fn leaf(s: u32, v: u32) -> SecondaryArm
         ensures { λ r. ⌜ secondaryArm r ≡ leafArm s v ⌝ }
     {
-        let node = Secondary::leaf(s);
-        SecondaryArm {
-            node,
-            weight: 1,
-            least: v,
-            greatest: v,
-        }
+        SecondaryArm::of(Arm::leaf(s, v))
     }
 
     // The inner node of that name over two trees.
     pub fn over(name: u32, l: SecondaryArm, r: SecondaryArm) -> SecondaryArm
         ensures { λ a. ⌜ secondaryArm a ≡ overArm name (secondaryArm l) (secondaryArm r) ⌝ }
     {
-        let node = Secondary::inner(name);
-        let weight = weights::sum(l.weight, r.weight);
-        SecondaryArm {
-            node,
-            weight,
-            least: l.least,
-            greatest: r.greatest,
-        }
+        SecondaryArm::of(Arm::over(name, l.bare(), r.bare()))
     }
 
     // The same root with one mark more, at the coordinate v.
     pub fn grown(self, v: u32) -> SecondaryArm
         ensures { λ r. ⌜ secondaryArm r ≡ grownArm (secondaryArm self) v ⌝ }
     {
-        let node = self.node;
-        let weight = weights::sum(self.weight, 1);
-        let least = weights::lesser(self.least, v);
-        let greatest = weights::greater(self.greatest, v);
-        SecondaryArm {
-            node,
-            weight,
-            least,
-            greatest,
-        }
+        let a = self.bare();
+        SecondaryArm::of(a.grown(v))
     }
 
-    // The arm at the word `at`.
+    // The arm at the word `at`, which is there.
+    pub fn load(t: &[u32], at: usize) -> SecondaryArm
+        requires { ⌜ at + armWidth ≤ length (now t) ⌝ }
+        ensures { λ r. ⌜ secondaryArm r ≡ armAt (now (t .entry)) at ⌝ }
+    {
+        SecondaryArm::of(Arm::load(t, at))
+    }
+
+    pub fn store(t: &mut [u32], at: usize, a: SecondaryArm)
+        requires { ⌜ at + armWidth ≤ length (now t) ⌝ }
+        ensures { λ _. ⌜ now (t .exit) ≡ putArm (now (t .entry)) at (secondaryArm a) ⌝ }
+    {
+        Arm::store(t, at, a.bare());
+    }
+
+    // The same where the words may not be there: no tree is read then, and nothing is written.
     pub fn at(t: &[u32], at: usize) -> SecondaryArm
         requires { ⌜ at < 2 ^ 60 ⌝ }
         ensures { λ r. ⌜ secondaryArm r ≡ armAt (now (t .entry)) at ⌝ }
     {
-        if at + 4 <= t.len() {
-            SecondaryArm {
-                node: Secondary(t[at]),
-                weight: t[at + 1],
-                least: t[at + 2],
-                greatest: t[at + 3],
-            }
-        } else {
-            SecondaryArm::none()
+        if at + layout::ARM <= t.len() {
+            return SecondaryArm::load(t, at);
         }
+        SecondaryArm::none()
     }
 
     pub fn put(t: &mut [u32], at: usize, a: SecondaryArm)
         requires { ⌜ at < 2 ^ 60 ⌝ }
         ensures { λ _. ⌜ now (t .exit) ≡ putArm (now (t .entry)) at (secondaryArm a) ⌝ }
     {
-        if at + 4 <= t.len() {
-            let n = a.node;
-            t[at] = n.0;
-            t[at + 1] = a.weight;
-            t[at + 2] = a.least;
-            t[at + 3] = a.greatest;
+        if at + layout::ARM <= t.len() {
+            SecondaryArm::store(t, at, a);
         }
     }
 }
@@ -143,40 +180,50 @@ impl SecondaryRecord {
     pub fn is_missing(t: &[u32], base: u32, name: u32) -> bool
         ensures { λ r. ⌜ r ≡ recordMissing (now (t .entry)) (recordPlace base name) ⌝ }
     {
-        let first = (base as usize) + 8;
+        let first = (base as usize) + layout::RECORD;
         if t.len() < first {
             return true;
         }
-        (t.len() - first) / 8 < (name as usize)
+        (t.len() - first) / layout::RECORD < (name as usize)
     }
 
-    // The record of that name, which the caller knows to be there.
-    pub fn present(t: &[u32], base: u32, name: u32) -> SecondaryRecord
-        requires { ⌜ recordPlace base name + 8 ≤ length (now t) ⌝ }
+    // The record of the inner node of that name, in the level whose records begin at base, which is there.
+    pub fn load(t: &[u32], base: u32, name: u32) -> SecondaryRecord
+        requires { ⌜ recordPlace base name + recordWidth ≤ length (now t) ⌝ }
         ensures { λ r. ⌜ secondaryRecord r ≡ recordAt (now (t .entry)) (recordPlace base name) ⌝ }
     {
-        let at = (base as usize) + 8 * (name as usize);
-        let left = SecondaryArm {
-            node: Secondary(t[at]),
-            weight: t[at + 1],
-            least: t[at + 2],
-            greatest: t[at + 3],
-        };
-        let right = SecondaryArm {
-            node: Secondary(t[at + 4]),
-            weight: t[at + 5],
-            least: t[at + 6],
-            greatest: t[at + 7],
-        };
+        let p = Record::load(t, (base as usize) + layout::RECORD * (name as usize));
+        let left = SecondaryArm::of(p.left);
+        let right = SecondaryArm::of(p.right);
         SecondaryRecord { left, right }
     }
 
-    // The record of the inner node of that name, in the level whose records begin at base.
+    pub fn store(t: &mut [u32], base: u32, name: u32, l: SecondaryArm, r: SecondaryArm)
+        requires { ⌜ recordPlace base name + recordWidth ≤ length (now t) ⌝ }
+        ensures { λ _. ⌜ now (t .exit) ≡ putRecord (now (t .entry)) (recordPlace base name) (secondaryArm l) (secondaryArm r) ⌝ }
+    {
+        Record::store(
+            t,
+            (base as usize) + layout::RECORD * (name as usize),
+            l.bare(),
+            r.bare(),
+        );
+    }
+
+    // Where its left, or its right, arm stands.
+    pub fn child(base: u32, name: u32, left: bool) -> usize
+        ensures is { λ r. ⌜ r ≡ childAt (recordPlace base name) left ⌝ }
+        ensures small { λ r. ⌜ r < 2 ^ 40 ⌝ }
+    {
+        Record::child((base as usize) + layout::RECORD * (name as usize), left)
+    }
+
+    // The same where the words may not be there: no trees are read then, and nothing is written.
     pub fn at(t: &[u32], base: u32, name: u32) -> SecondaryRecord
         ensures { λ r. ⌜ secondaryRecord r ≡ recordAt (now (t .entry)) (recordPlace base name) ⌝ }
     {
-        if (base as usize) + 8 * (name as usize) + 8 <= t.len() {
-            return SecondaryRecord::present(t, base, name);
+        if (base as usize) + layout::RECORD * (name as usize) + layout::RECORD <= t.len() {
+            return SecondaryRecord::load(t, base, name);
         }
         let left = SecondaryArm::none();
         let right = SecondaryArm::none();
@@ -186,18 +233,8 @@ impl SecondaryRecord {
     pub fn put(t: &mut [u32], base: u32, name: u32, l: SecondaryArm, r: SecondaryArm)
         ensures { λ _. ⌜ now (t .exit) ≡ putRecord (now (t .entry)) (recordPlace base name) (secondaryArm l) (secondaryArm r) ⌝ }
     {
-        let at = (base as usize) + 8 * (name as usize);
-        if at + 8 <= t.len() {
-            let n = l.node;
-            let k = r.node;
-            t[at] = n.0;
-            t[at + 1] = l.weight;
-            t[at + 2] = l.least;
-            t[at + 3] = l.greatest;
-            t[at + 4] = k.0;
-            t[at + 5] = r.weight;
-            t[at + 6] = r.least;
-            t[at + 7] = r.greatest;
+        if (base as usize) + layout::RECORD * (name as usize) + layout::RECORD <= t.len() {
+            SecondaryRecord::store(t, base, name, l, r);
         }
     }
 }

@@ -1,5 +1,4 @@
 -- Mirrors: what the functions of src/ give, on lists and numbers, step by step. What they mean is in proofs/.
-pub mod Collect
 pub mod Merge
 pub mod Build
 pub mod Values

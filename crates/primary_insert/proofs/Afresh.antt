@@ -5,48 +5,42 @@ use mathlib.Core.Path.{_≡_, sym, ap, subst, _∙_}
 use mathlib.Core.Bool.{false}
 use mathlib.Core.List.{List}
 use native.Mathlib.Omega.{arith}
-use lib.Dec.{eqb}
-use lib.ListN.{length, getD}
-use borrow.Author.Tests.{ne-eqb, eqb-true, eqb-false}
+use lib.ListN.{length}
+use borrow.Author.Tests.{ne-eqb}
 use Rattle.model.specs.Sizes.{D, W}
 use Rattle.model.specs.Sheet.{Mark, alongX}
 use Rattle.model.specs.Tree.{node, weight, depth, marks, least, evenly, build, rebuilt}
 use Rattle.model.specs.Laws.{Sorted}
-use Rattle.model.proofs.Logic.{by-cases}
 use Rattle.model.proofs.Tree.{weight-pos, weight-marks, marks-pos, build-marks}
-use Rattle.table.specs.Layout.{capacityPlace, mainPlace, levelPlace, deepest}
+use Rattle.table.specs.Layout.{mainPlace, levelPlace}
+use Rattle.table.specs.Limits.{deepest, noSlot}
 use Rattle.nodes.specs.Arms.{putArm}
-use Rattle.nodes.specs.Holds.{armOf, times, Held}
+use Rattle.nodes.specs.Holds.{number, armOf, times, Held}
 use Rattle.table.specs.After.{After, after}
 use Rattle.nodes.proofs.Held.{Names, names-marks}
 use Rattle.nodes.proofs.Spots.{LeavesAt}
-use Rattle.twofold.specs.Rules.{SlotAuxiliary, SlotMain}
-use Rattle.twofold.proofs.Frames.{TwoFrame, twoFrame-weaken, main-frameAt, twoSpot-weaken}
-use Rattle.twofold.proofs.Kept.{clear-spot, kept-capacity}
-use Rattle.twofold.proofs.Over.{TwoLeaves, TwoLeavesAt}
-use Rattle.twofold.proofs.Rules.{build-rules, insert-ordered}
+use Rattle.twofold_layout.specs.Rules.{SlotAuxiliary, SlotMain}
+use Rattle.twofold_layout.proofs.Frames.{TwoFrame, twoFrame-weaken, main-frameAt, twoSpot-weaken}
+use Rattle.twofold_layout.proofs.Over.{TwoLeaves, TwoLeavesAt}
+use Rattle.twofold_layout.proofs.Rules.{build-rules, insert-ordered}
 use Rattle.secondary_update.specs.Insert.{insert♯}
 use Rattle.secondary_update.proofs.Inserting.{insert-depth}
 use Rattle.primary_build.specs.Build.{Freshly, mainRebuild♯}
-use Rattle.primary_build.proofs.Collecting.{without-none}
+use Rattle.nodes.proofs.Collecting.{every-slot}
 use Rattle.primary_build.proofs.Building.{main-rebuild-holds}
-use Rattle.primary_insert.specs.Insert.{noSlot, putRebuilt, rebuiltAt, afreshOnce, mainAfresh♯}
+use Rattle.primary_insert.specs.Insert.{putRebuilt, rebuiltAt, afreshOnce, mainAfresh♯}
 use Rattle.primary_insert.proofs.Way.{put-two}
-use Rattle.primary_insert.proofs.Ready.{TwoReady, X, R, grow, mend, Grown, ready-room, ready-within, main-grows}
+use Rattle.primary_insert.proofs.Ready.{TwoReady, X, R, grow, mend, Grown, ready-room, main-grows}
 
 module _ {f : ℕ → Mark} {C s : ℕ} (small : C ≤ 65536) (inC : s < C) where
   -- a tree whose main nodes are held, built afresh: no slot is left out
   rebuild-leaves : (t : SlotMain) (xs : List ℕ) (d₀ d : ℕ) → Held alongX f mainPlace C xs t → depth t < 40 → Sorted (X f) (marks t)
-      → getD xs capacityPlace 0 ≡ C → length xs ≡ W C → d + depth (build (X f) (R f) d₀ (marks t)) ≤ D C
-      → let p = mainRebuild♯ (levelPlace C d) noSlot (weight t) (armOf alongX f t) xs in
+      → length xs ≡ W C → d + depth (build (X f) (R f) d₀ (marks t)) ≤ D C
+      → let p = mainRebuild♯ C (levelPlace C d) noSlot (weight t) (weight t) (number t) xs in
       TwoLeaves f C d xs (p .out .arm) (p .words) (build (X f) (R f) d₀ (marks t))
-  rebuild-leaves t xs d₀ d h shallow o c long fits =
-      let none : times noSlot t ≡ 0 =
-      by-cases (eqb (times noSlot t) 0) (λ e. eqb-true (times noSlot t) 0 e)
-      (λ e. absurd (omega (arith, h .within noSlot (omega (arith, eqb-false (times noSlot t) 0 e))))) in
+  rebuild-leaves t xs d₀ d h shallow o long fits =
       let m =
-      main-rebuild-holds f C noSlot (weight t) d₀ d t (marks t) xs h shallow o c small long (sym (without-none noSlot (marks t) none)) (marks-pos t) fits
-      (weight-marks t) in
+      main-rebuild-holds f C noSlot (weight t) d₀ d t (marks t) xs h shallow o small long (sym (every-slot t small h)) (marks-pos t) fits (weight-marks t) in
       record { is = m .is; held = m .held; frame = m .frame }
 
   -- WHERE A NODE WILL NOT BE EVEN: the main tree alone is grown, and the two-fold tree is built afresh of it
@@ -58,7 +52,7 @@ module _ {f : ℕ → Mark} {C s : ℕ} (small : C ≤ 65536) (inC : s < C) wher
     fresh-marks = build-marks (X f) (R f) d₀ (marks (grow f s t)) (marks-pos (grow f s t))
 
     abbrev putWords : List ℕ
-    putWords = insert♯ alongX deepest mainPlace (f s) s false at xs .words
+    putWords = insert♯ alongX deepest C mainPlace (f s) s false at xs .words
 
     put-leaves : LeavesAt alongX f mainPlace C at xs putWords (grow f s t)
     put-leaves = main-grows small inC k deepest (omega arith) shallow .0
@@ -67,15 +61,15 @@ module _ {f : ℕ → Mark} {C s : ℕ} (small : C ≤ 65536) (inC : s < C) wher
     put-frame = main-frameAt (put-leaves .frame)
 
     abbrev rebuilding : After Freshly
-    rebuilding = mainRebuild♯ (levelPlace C d) noSlot (weight (grow f s t)) (armOf alongX f (grow f s t)) putWords
+    rebuilding = mainRebuild♯ C (levelPlace C d) noSlot (weight (grow f s t)) (weight (grow f s t)) (number (grow f s t)) putWords
 
     module _ (fits : d + depth fresh ≤ D C) where
       fresh-leaves : TwoLeaves f C d putWords (rebuilding .out .arm) (rebuilding .words) fresh
       fresh-leaves =
           rebuild-leaves (grow f s t) putWords d₀ d (put-leaves .held) (omega (arith, insert-depth (X f) (R f) s t)) (insert-ordered f s t (k .new) (k .rules))
-          (kept-capacity (λ q p. ready-within inC k q (p .0)) (clear-spot (k .spot)) put-frame ∙ k .capacity) (put-frame .long ∙ k .long) fits
+          (put-frame .long ∙ k .long) fits
 
-      afresh-words : mainAfresh♯ (f s) s (levelPlace C d) at xs ≡ after (weight (grow f s t)) (putArm (rebuilding .words) at (rebuilding .out .arm))
+      afresh-words : mainAfresh♯ C (f s) s (levelPlace C d) at xs ≡ after (weight (grow f s t)) (putArm (rebuilding .words) at (rebuilding .out .arm))
       unfolding mainAfresh♯ afreshOnce rebuiltAt putRebuilt
       afresh-words =
           let e : rebuilding .out .arm .weight ≡ weight fresh = ap (λ a. a .weight) (fresh-leaves .is) in
@@ -93,7 +87,7 @@ module _ {f : ℕ → Mark} {C s : ℕ} (small : C ≤ 65536) (inC : s < C) wher
 
   pub afresh-grown : {d at : ℕ} {xs : List ℕ} {t : SlotMain} → TwoReady f C s d at xs t → depth t + 1 < 40 → d + depth (mend f (grow f s t)) ≤ D C
       → (i : SlotAuxiliary) (l r : SlotMain) → grow f s t ≡ node i l r → evenly l r ≡ false
-      → Grown f C d at xs (mainAfresh♯ (f s) s (levelPlace C d) at xs) (grow f s t)
+      → Grown f C d at xs (mainAfresh♯ C (f s) s (levelPlace C d) at xs) (grow f s t)
   afresh-grown {d = d} {at = at} {xs = xs} {t = t} k shallow fits i l r g u =
       let e : mend f (grow f s t) ≡ build (X f) (R f) (least l) (marks (grow f s t)) = rw (g, u) in
       let n : rebuilt (grow f s t) ≡ weight (grow f s t) = rw (g, u) in

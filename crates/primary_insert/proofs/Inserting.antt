@@ -4,11 +4,10 @@ use Prim.Native.Nat.{ℕ, zero, suc, _+_, _*_, _/_, _%_, _≤_, _<_}
 use mathlib.Core.Path.{_≡_, refl, sym, ap, subst, _∙_}
 use mathlib.Core.Bool.{Bool, true, false}
 use mathlib.Core.List.{List, _∷_, _++_}
-use mathlib.Core.Logic.{inr}
 use native.Mathlib.Omega.{arith}
 use lib.Dec.{eqb}
-use lib.ListN.{length, getD}
-use borrow.Author.Tests.{eq-eqb, ne-eqb}
+use lib.ListN.{length}
+use borrow.Author.Tests.{eq-eqb, ne-eqb, lt-leb, le-ltb}
 use Rattle.model.specs.Lists.{indicator, countIf}
 use Rattle.model.specs.Sizes.{D, W}
 use Rattle.model.specs.Sheet.{Mark, belowX, sheet, alongX, alongY}
@@ -20,25 +19,27 @@ use Rattle.model.proofs.Sizes.{D-rises}
 use Rattle.model.proofs.Depth.{balanced-depth}
 use Rattle.model.proofs.Tree.{weight-pos, rebalance-marks, rebalance-weight, rebalance-balanced}
 use Rattle.model.proofs.Rebalance.{rebalance-left, rebalance-right, rebuilt-left, rebuilt-right}
-use Rattle.table.specs.Layout.{capacityPlace, mainPlace, auxiliaryPlace, rootPlace, levelPlace, recordPlace, deepest, damaged}
+use Rattle.table.specs.Layout.{mainPlace, auxiliaryPlace, rootPlace, levelPlace, recordPlace}
+use Rattle.table.specs.Limits.{deepest, damaged}
 use Rattle.table.specs.Marks.{slotMark}
-use Rattle.nodes.specs.Arms.{Arm, arms, grownArm, armAt, putArm}
-use Rattle.table.specs.Weights.{sum}
+use Rattle.nodes.specs.Arms.{Arm, arms, grownArm, armAt, putArm, childAt}
+use Rattle.nodes.specs.Weights.{sum, unbalances}
 use Rattle.nodes.specs.Holds.{armOf, timesIn, times}
 use Rattle.table.specs.After.{After}
-use Rattle.nodes.proofs.Held.{times-node, times-least, held-weight, leafArm-of, Names, least-marks, greatest-marks, names-marks, names-own}
+use Rattle.nodes.proofs.Held.{times-node, times-least, held-weight, held-least, leafArm-of, Names, least-marks, greatest-marks, names-marks, names-own}
+use Rattle.nodes.proofs.Unchanged.{unchanged-trans}
 use Rattle.nodes.proofs.Spots.{record-arms, putArm-same}
 use Rattle.nodes.proofs.Levels.{most-levels, held-shallow}
-use Rattle.twofold.specs.Rules.{SlotAuxiliary, SlotMain, slotAuxiliary, ByRules}
-use Rattle.twofold.specs.TwoFold.{HoldsAuxiliary, TwoFold}
-use Rattle.twofold.proofs.Frames.{TwoFrame, twoFrame-trans, twoFrame-weaken, twoFrame-at, level-frameAt, arm-twoFrame, twoSpot-weaken, root-spot, child-spot}
-use Rattle.twofold.proofs.Kept.{clear-none, clear-spot, kept-capacity, kept-mark, kept-arm}
-use Rattle.twofold.proofs.Over.{TwoLeavesAt, two-left, two-right, top-level, deeper-level, two-main}
-use Rattle.twofold.proofs.Rules.{rules-left, rules-right}
-use Rattle.secondary_update.specs.Insert.{unsteady♯, childPlace, insert♯}
+use Rattle.twofold_layout.specs.Rules.{SlotAuxiliary, SlotMain, slotAuxiliary, ByRules}
+use Rattle.twofold_layout.specs.TwoFold.{HoldsAuxiliary, TwoFold}
+use Rattle.twofold_layout.proofs.Frames.{TwoFrame, twoFrame-weaken, twoFrame-at, level-frameAt, arm-twoFrame, twoSpot-weaken, root-spot, child-spot}
+use Rattle.twofold_layout.proofs.Kept.{clear-none, clear-spot, kept-mark, kept-arm}
+use Rattle.twofold_layout.proofs.Over.{TwoLeavesAt, two-left, two-right, top-level, deeper-level, two-main}
+use Rattle.twofold_layout.proofs.Rules.{rules-left, rules-right}
+use Rattle.secondary_update.specs.Insert.{auxiliaryInsert♯}
 use Rattle.secondary_update.proofs.Inserting.{insert-times, insert-weight, insert-least, insert-names, rebuilt-weight, sum-one, grown-arm, leaf-held, grown-within}
 use Rattle.primary_insert.specs.Insert.{mainLeaf♯, mainAfresh♯, MainInsertion, insertOn, mainWay, mainInsertRecord, mainInsertArm, mainInsertNode, insertBeneath♯, insertRoot, mainInsert♯}
-use Rattle.twofold.proofs.Beneath.{beneath-record, beneath-two}
+use Rattle.twofold_layout.proofs.Beneath.{beneath-record, beneath-two}
 use Rattle.primary_insert.proofs.Way.{arm-kept, AuxiliaryGrown, auxiliary-grown, two-way-left, two-way-right}
 use Rattle.primary_insert.proofs.Ready.{TwoReady, X, R, grow, mend, Grown, byX, ready-room, ready-new, ready-within, ready-once}
 use Rattle.primary_insert.proofs.Afresh.{afresh-grown}
@@ -57,7 +58,7 @@ module _ (f : ℕ → Mark) (C s : ℕ) (small : C ≤ 65536) (inC : s < C) wher
     widened = putArm xs at wide
 
     abbrev handed : After ℕ
-    handed = insert♯ alongY deepest (recordPlace (levelPlace C d)) (f s) s true (auxiliaryPlace (least r)) widened
+    handed = auxiliaryInsert♯ (levelPlace C d) C (f s) s (least r) widened
 
     node-apart : (q : ℕ) → times q l + times q r ≤ 1
     node-apart q = omega (arith, k .held .main .once q, times-node q i l r)
@@ -66,16 +67,15 @@ module _ (f : ℕ → Mark) (C s : ℕ) (small : C ≤ 65536) (inC : s < C) wher
     node-named = k .held .main .within (least r) (omega (arith, times-node (least r) i l r, times-least r))
 
     widened-frame : TwoFrame C d (λ q. ⊥) (λ q. ⊥) at 4 xs widened
-    widened-frame = arm-twoFrame xs at wide (ready-room small k)
+    widened-frame = arm-twoFrame xs at wide
 
     widened-held : TwoFold f C d widened (node i l r)
     widened-held =
-        arm-kept xs wide (node i l r) (ready-room small k) (k .spot) (insert-names (X f) (R f) s (node i l r) (ready-new k)) (k .rules .auxiliaries) (k .held)
+        arm-kept xs wide (node i l r) (k .spot) (insert-names (X f) (R f) s (node i l r) (ready-new k)) (k .rules .auxiliaries) (k .held)
 
     handed-grown : AuxiliaryGrown f C s d (least r) widened i (marks l ++ marks r) handed
     handed-grown =
         auxiliary-grown f C s d (least r) widened (marks l ++ marks r) small inC low node-named (widened-frame .long ∙ k .long)
-        (kept-capacity (λ q p. absurd p) (clear-spot (k .spot)) widened-frame ∙ k .capacity)
         (kept-mark (λ q p. absurd p) (clear-spot (k .spot)) widened-frame s inC ∙ k .marked) (k .new) i (widened-held .auxiliaries .0)
         (k .rules .auxiliaries .0)
 
@@ -91,11 +91,11 @@ module _ (f : ℕ → Mark) (C s : ℕ) (small : C ≤ 65536) (inC : s < C) wher
         (handed-grown .frame)
 
     handed-before : TwoFrame C d (Names (grow f s (node i l r))) (λ q. 0 < times q (grow f s (node i l r))) at 4 xs (handed .words)
-    handed-before = twoFrame-trans (arm-twoFrame xs at wide (ready-room small k)) (twoFrame-at handed-frame)
+    handed-before = unchanged-trans (arm-twoFrame xs at wide) (twoFrame-at handed-frame)
 
     handed-is : armAt (handed .words) at ≡ armOf alongX f (grow f s (node i l r))
     handed-is =
-        kept-arm (λ q p. ready-within inC k q (p .0)) clear-none handed-frame at (k .spot) (inr (omega arith)) ∙ putArm-same xs at wide (ready-room small k)
+        kept-arm (λ q p. ready-within inC k q (p .0)) clear-none handed-frame at (k .spot) (omega arith) ∙ putArm-same xs at wide (ready-room small k)
         ∙ grown-arm alongX f (R f) s byX i l r (k .rules .sorted) (omega (arith, held-weight (k .held .main)))
 
     handed-long : length (handed .words) ≡ W C
@@ -103,9 +103,6 @@ module _ (f : ℕ → Mark) (C s : ℕ) (small : C ≤ 65536) (inC : s < C) wher
 
     handed-room : mainPlace (least r) + 8 ≤ length (handed .words)
     handed-room = two-main small handed-long .room (least r) node-named
-
-    handed-capacity : getD (handed .words) capacityPlace 0 ≡ C
-    handed-capacity = kept-capacity (λ q p. ready-within inC k q (p .0)) (clear-spot (k .spot)) handed-before ∙ k .capacity
 
     handed-marked : slotMark (handed .words) s ≡ f s
     handed-marked = kept-mark (λ q p. ready-within inC k q (p .0)) (clear-spot (k .spot)) handed-before s inC ∙ k .marked
@@ -130,7 +127,6 @@ module _ (f : ℕ → Mark) (C s : ℕ) (small : C ≤ 65536) (inC : s < C) wher
     left-ready : TwoReady f C s (suc d) (mainPlace (least r)) (handed .words) l
     left-ready = record {
       long = handed-long;
-      capacity = handed-capacity;
       marked = handed-marked;
       is = ap (λ p. p .left) handed-arms;
       held = handed-left;
@@ -146,7 +142,6 @@ module _ (f : ℕ → Mark) (C s : ℕ) (small : C ≤ 65536) (inC : s < C) wher
     right-ready : belowX (f s) (f (least r)) ≡ false → TwoReady f C s (suc d) (mainPlace (least r) + 4) (handed .words) r
     right-ready e = record {
       long = handed-long;
-      capacity = handed-capacity;
       marked = handed-marked;
       is = ap (λ p. p .right) handed-arms;
       held = handed-right;
@@ -220,8 +215,9 @@ module _ (f : ℕ → Mark) (C s : ℕ) (small : C ≤ 65536) (inC : s < C) wher
         let member : 0 < times (least r) (node i l r) = omega (arith, times-node (least r) i l r, times-least r) in
         rw (
           k .is,
-          ne-eqb ((2 * least r + 1) % 2) 0 odd,
           half,
+          lt-leb C (least r) (held-least (two-right (k .held) .main)),
+          ne-eqb ((2 * least r + 1) % 2) 0 odd,
           k .held .main .records .0,
           eq-eqb (weight l + weight r) (weight l + weight r) refl,
           k .held .main .marked (least r) member,
@@ -233,17 +229,17 @@ module _ (f : ℕ → Mark) (C s : ℕ) (small : C ≤ 65536) (inC : s < C) wher
     next-right : sum (weight r) 1 ≡ weight (grow f s r)
     next-right = sum-one (weight r) (omega (arith, held-weight (k .held .main))) ∙ sym (insert-weight (X f) (R f) s r)
 
-    afresh-left : evenly (grow f s l) r ≡ false → Way true ≡ mainAfresh♯ (f s) s (levelPlace C d) at xs
-    unfolding mainWay unsteady♯
+    afresh-left : evenly (grow f s l) r ≡ false → Way true ≡ mainAfresh♯ C (f s) s (levelPlace C d) at xs
+    unfolding mainWay unbalances
     afresh-left u = rw (next-left, u)
 
-    afresh-right : evenly l (grow f s r) ≡ false → Way false ≡ mainAfresh♯ (f s) s (levelPlace C d) at xs
-    unfolding mainWay unsteady♯
+    afresh-right : evenly l (grow f s r) ≡ false → Way false ≡ mainAfresh♯ C (f s) s (levelPlace C d) at xs
+    unfolding mainWay unbalances
     afresh-right u = rw (next-right, u)
 
     module _ (low : d < D C) where
       way-left : evenly (grow f s l) r ≡ true → Way true ≡ rec (levelPlace C (suc d)) (mainPlace (least r)) (handed i l r k low .words)
-      unfolding mainWay unsteady♯ childPlace insertOn
+      unfolding mainWay unbalances childAt insertOn
       way-left t =
           rw (
             next-left,
@@ -253,7 +249,7 @@ module _ (f : ℕ → Mark) (C s : ℕ) (small : C ≤ 65536) (inC : s < C) wher
           )
 
       way-right : evenly l (grow f s r) ≡ true → Way false ≡ rec (levelPlace C (suc d)) (mainPlace (least r) + 4) (handed i l r k low .words)
-      unfolding mainWay unsteady♯ childPlace insertOn
+      unfolding mainWay unbalances childAt insertOn
       way-right t =
           rw (
             next-right,
@@ -263,9 +259,12 @@ module _ (f : ℕ → Mark) (C s : ℕ) (small : C ≤ 65536) (inC : s < C) wher
           )
 
   insertBeneath-leaf : {d at : ℕ} {xs : List ℕ} (q : ℕ) (rec : MainInsertion) → TwoReady f C s d at xs (leaf q)
-      → mainInsertNode rec C (f s) s (levelPlace C d) at xs ≡ mainLeaf♯ (f s) s (levelPlace C d) at (armOf {I = SlotAuxiliary} alongX f (leaf q)) xs
+      → mainInsertNode rec C (f s) s (levelPlace C d) at xs ≡ mainLeaf♯ C (f s) s (levelPlace C d) at (armOf {I = SlotAuxiliary} alongX f (leaf q)) xs
   unfolding mainInsertNode mainInsertArm
-  insertBeneath-leaf q rec k = let even : 2 * q % 2 ≡ 0 = omega arith in rw (k .is, eq-eqb (2 * q % 2) 0 even)
+  insertBeneath-leaf q rec k =
+      let even : 2 * q % 2 ≡ 0 = omega arith in
+      let half : 2 * q / 2 ≡ q = omega arith in
+      rw (k .is, half, lt-leb C q (held-least (k .held .main)), eq-eqb (2 * q % 2) 0 even)
 
   leaf-low : {d : ℕ} (q : ℕ) → d + depth (mend f (grow f s (leaf q))) ≤ D C → d < D C
   leaf-low {d = d} q fits = by-cases (belowX (f s) (f q)) (λ e. let z = (rw e at fits) in omega arith) (λ e. let z = (rw e at fits) in omega arith)
@@ -337,16 +336,15 @@ module _ (f : ℕ → Mark) (C s : ℕ) (small : C ≤ 65536) (inC : s < C) (xs 
       let w : weight m ≡ weight t + 1 = rebalance-weight (slotAxis f alongX) (slotAuxiliary f) g ∙ insert-weight (slotAxis f alongX) (slotAuxiliary f) s t in
       omega (arith, balanced-depth m (rebalance-balanced (slotAxis f alongX) (slotAuxiliary f) g), D-rises (weight m) C (omega arith))
 
-  pub mainInsert-holds : (t : SlotMain) → getD xs capacityPlace 0 ≡ C → armAt xs rootPlace ≡ armOf alongX f t → TwoFold f C 0 xs t → ByRules f t
+  pub mainInsert-holds : (t : SlotMain) → armAt xs rootPlace ≡ armOf alongX f t → TwoFold f C 0 xs t → ByRules f t
       → countIf (slotSpace f sheet .same s) (marks t) ≡ 0 → weight t < C
-      → let p = mainInsert♯ (f s) s xs in
+      → let p = mainInsert♯ C (f s) s xs in
       TwoLeavesAt f C 0 rootPlace xs (p .words) (rebalance (slotAxis f alongX) (slotAuxiliary f) (insertLeaf (slotAxis f alongX) (slotAuxiliary f) s t))
       × (p .out ≡ rebuilt (insertLeaf (slotAxis f alongX) (slotAuxiliary f) s t)) × (p .out ≡ damaged → ⊥)
   unfolding mainInsert♯ insertRoot
-  mainInsert-holds t c is h rules new free =
+  mainInsert-holds t is h rules new free =
       let ready : TwoReady f C s 0 rootPlace xs t = record {
         long = long;
-        capacity = c;
         marked = marked;
         is = is;
         held = h;
@@ -358,18 +356,18 @@ module _ (f : ℕ → Mark) (C s : ℕ) (small : C ≤ 65536) (inC : s < C) (xs 
       let k = insertBeneath-holds f C s small inC deepest t 0 rootPlace xs ready (omega (arith, mended-depth t free)) (omega arith) (omega arith) in
       let most : rebuilt (insertLeaf (slotAxis f alongX) (slotAuxiliary f) s t) ≤ 65536 =
       omega (arith, rebuilt-weight (insertLeaf (slotAxis f alongX) (slotAuxiliary f) s t), insert-weight (slotAxis f alongX) (slotAuxiliary f) s t) in
-      rw (c, is, ne-eqb (weight t) 0 (omega (arith, weight-pos t)), top-level C small) (k .0, k .1, λ e. omega (arith, k .1))
+      rw (is, ne-eqb (weight t) 0 (omega (arith, weight-pos t)), top-level C small) (k .0, k .1, λ e. omega (arith, k .1))
 
   -- the first slot is a lone leaf
   pub mainInsert-first : armAt xs rootPlace .weight ≡ 0
-      → let p = mainInsert♯ (f s) s xs in TwoLeavesAt f C 0 rootPlace xs (p .words) (leaf s) × (p .out ≡ 0)
+      → let p = mainInsert♯ C (f s) s xs in TwoLeavesAt f C 0 rootPlace xs (p .words) (leaf s) × (p .out ≡ 0)
   unfolding mainInsert♯ insertRoot
   mainInsert-first e =
       let room : rootPlace + 4 ≤ length xs = omega (arith, two-main small long .runRoom) in
       let a : Arm = armOf {I = SlotAuxiliary} alongX f (leaf s) in
       let frame : TwoFrame C 0 (Names {I = SlotAuxiliary} (leaf s)) (λ q. 0 < times {I = SlotAuxiliary} q (leaf s)) rootPlace 4 xs (putArm xs rootPlace a) =
-      arm-twoFrame xs rootPlace a room in
-      let b : TwoFrame C 0 (λ q. ⊥) (λ q. ⊥) rootPlace 4 xs (putArm xs rootPlace a) = arm-twoFrame xs rootPlace a room in
+      arm-twoFrame xs rootPlace a in
+      let b : TwoFrame C 0 (λ q. ⊥) (λ q. ⊥) rootPlace 4 xs (putArm xs rootPlace a) = arm-twoFrame xs rootPlace a in
       let kept : slotMark (putArm xs rootPlace a) s ≡ f s = kept-mark (λ q p. absurd p) (clear-spot (root-spot {P = λ q. ⊥})) b s inC ∙ marked in
       rw (eq-eqb (armAt xs rootPlace .weight) 0 e, leafArm-of s (f s .x) (omega arith)) (
         record {

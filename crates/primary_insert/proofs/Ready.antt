@@ -3,9 +3,8 @@ use Prim.Native.Nat.{ℕ, _+_, _≤_, _<_}
 use mathlib.Core.Path.{_≡_}
 use mathlib.Core.Bool.{false}
 use mathlib.Core.List.{List}
-use mathlib.Core.Logic.{_⊎_, inl, inr}
 use native.Mathlib.Omega.{arith}
-use lib.ListN.{length, getD}
+use lib.ListN.{length}
 use Rattle.model.specs.Lists.{countIf}
 use Rattle.model.specs.Axis.{Axis}
 use Rattle.model.specs.Register.{Register}
@@ -14,7 +13,7 @@ use Rattle.model.specs.Sheet.{Mark, Box, sheet, alongX}
 use Rattle.model.specs.Slots.{slotSpace, slotAxis}
 use Rattle.model.specs.Tree.{depth, marks, insertLeaf, rebalance, rebuilt}
 use Rattle.model.proofs.Orders.{same-sound, alongX-laws}
-use Rattle.table.specs.Layout.{capacityPlace, mainPlace}
+use Rattle.table.specs.Layout.{mainPlace}
 use Rattle.table.specs.Marks.{slotMark}
 use Rattle.nodes.specs.Arms.{armAt}
 use Rattle.nodes.specs.Holds.{armOf, times}
@@ -22,11 +21,11 @@ use Rattle.table.specs.After.{After}
 use Rattle.nodes.proofs.Frames.{Region}
 use Rattle.nodes.proofs.Held.{Names}
 use Rattle.nodes.proofs.Spots.{Spot, LeavesAt}
-use Rattle.twofold.specs.Rules.{SlotAuxiliary, SlotMain, slotAuxiliary, ByRules}
-use Rattle.twofold.specs.TwoFold.{TwoFold}
-use Rattle.twofold.proofs.Frames.{TwoSpot}
-use Rattle.twofold.proofs.Over.{TwoLeavesAt, two-main}
-use Rattle.twofold.proofs.Rules.{new-slot}
+use Rattle.twofold_layout.specs.Rules.{SlotAuxiliary, SlotMain, slotAuxiliary, ByRules}
+use Rattle.twofold_layout.specs.TwoFold.{TwoFold}
+use Rattle.twofold_layout.proofs.Frames.{TwoSpot}
+use Rattle.twofold_layout.proofs.Over.{TwoLeavesAt, two-main}
+use Rattle.twofold_layout.proofs.Rules.{new-slot}
 use Rattle.secondary_update.specs.Insert.{insert♯}
 use Rattle.secondary_update.proofs.Inserting.{insert-times, ByCoordinate, axis-coordinate, grown-once, grown-within, insert-holds}
 
@@ -34,7 +33,6 @@ use Rattle.secondary_update.proofs.Inserting.{insert-times, ByCoordinate, axis-
 -- the tree has the same.
 pub record TwoReady (f : ℕ → Mark) (C s d at : ℕ) (xs : List ℕ) (t : SlotMain) : Type 0 where
   pub long : length xs ≡ W C
-  pub capacity : getD xs capacityPlace 0 ≡ C
   pub marked : slotMark xs s ≡ f s
   pub is : armAt xs at ≡ armOf alongX f t
   pub held : TwoFold f C d xs t
@@ -64,17 +62,13 @@ byX = axis-coordinate alongX-laws same-sound
 
 -- a spot of a two-fold tree's arm is one of the main tree's
 main-spot : {C n at : ℕ} {P : ℕ → Type 0} → Region mainPlace C n → TwoSpot C P at → Spot mainPlace C P at n
-main-spot {at = at} g t = record {
+main-spot g t = record {
   room = omega (arith, t .low, g .runRoom);
   afterCapacity = t .afterCapacity;
-  offRun = inl (omega (arith, t .low));
+  offRun = omega (arith, t .low);
   offMarks = t .offMarks;
-  offRecords = λ q p. past q (t .offNodes q p);
+  offRecords = λ q p k. omega (arith, t .offNodes q p k);
 }
-  where
-    past : (q : ℕ) → (at + 4 ≤ mainPlace q) ⊎ (mainPlace q + 12 ≤ at) → (at + 4 ≤ mainPlace q) ⊎ (mainPlace q + 8 ≤ at)
-    past q (inl h) = inl h
-    past q (inr h) = inr (omega arith)
 
 pub ready-new : {f : ℕ → Mark} {C s d at : ℕ} {xs : List ℕ} {t : SlotMain} → TwoReady f C s d at xs t → times s t ≡ 0
 ready-new {f = f} {s = s} {t = t} k = new-slot f s t (k .new)
@@ -96,12 +90,11 @@ module _ {f : ℕ → Mark} {C s : ℕ} (inC : s < C) {d at : ℕ} {xs : List �
 -- the slot put into the main tree alone
 pub main-grows : {f : ℕ → Mark} {C s : ℕ} → C ≤ 65536 → s < C → {d at : ℕ} {xs : List ℕ} {t : SlotMain} → TwoReady f C s d at xs t → (fuel : ℕ)
     → depth t < fuel → depth t + 1 < 40
-    → LeavesAt alongX f mainPlace C at xs (insert♯ alongX fuel mainPlace (f s) s false at xs .words) (grow f s t)
-    × (insert♯ alongX fuel mainPlace (f s) s false at xs .out ≡ 0)
+    → LeavesAt alongX f mainPlace C at xs (insert♯ alongX fuel C mainPlace (f s) s false at xs .words) (grow f s t)
+    × (insert♯ alongX fuel C mainPlace (f s) s false at xs .out ≡ 0)
 main-grows {f = f} {C = C} {s = s} small inC {at = at} {xs = xs} {t = t} k fuel deep shallow =
     insert-holds alongX f (R f) mainPlace C s inC byX fuel t false at xs (record {
       region = ready-region small k;
-      capacity = k .capacity;
       marked = k .marked;
       is = k .is;
       held = k .held .main;

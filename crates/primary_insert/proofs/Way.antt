@@ -2,12 +2,11 @@
 -- that was changed, its arm standing in the node's record. Assumes nothing.
 use Prim.Native.Nat.{ℕ, suc, _+_, _≤_, _<_}
 use mathlib.Core.Path.{_≡_, refl, sym, ap₂, subst, _∙_}
-use mathlib.Core.Bool.{true}
 use mathlib.Core.List.{List, _∷_}
 use mathlib.Core.Logic.{_⊎_, inl, inr}
 use mathlib.Core.Option.{some, Option·some-injective}
 use native.Mathlib.Omega.{arith}
-use lib.ListN.{length, getD}
+use lib.ListN.{length}
 use Rattle.model.specs.Lists.{countIf}
 use Rattle.model.specs.Tree.{Tree, node, marks, least, Balanced}
 use Rattle.model.specs.Fold.{insertRebuilt}
@@ -15,29 +14,32 @@ use Rattle.model.specs.Sizes.{D, W}
 use Rattle.model.specs.Sheet.{Mark, sheet, alongX, alongY}
 use Rattle.model.specs.Slots.{slotSpace, slotAxis}
 use Rattle.model.specs.Laws.{SameBag, Sorted}
-use Rattle.model.proofs.Logic.{by-order}
-use Rattle.table.specs.Layout.{capacityPlace, mainPlace, auxiliaryPlace, runPlace, levelPlace, recordPlace, deepest, damaged}
+use Rattle.table.specs.Layout.{mainPlace, auxiliaryPlace, runPlace, levelPlace, recordPlace}
+use Rattle.table.specs.Limits.{damaged}
 use Rattle.table.specs.Marks.{slotMark}
 use Rattle.nodes.specs.Arms.{Arm, arms, armAt, putArm}
 use Rattle.nodes.specs.Holds.{armOf, timesIn, times, Held}
 use Rattle.table.specs.After.{After}
+use Rattle.nodes.proofs.Unchanged.{apart-sym, unchanged-trans}
+use Rattle.nodes.proofs.Frames.{FrameAt, frameAt-weaken}
 use Rattle.nodes.proofs.Held.{times-node, times-least, held-least, Names, names-left, names-right, names-own}
-use Rattle.nodes.proofs.Spots.{FrameAt, record-arms, putArm-same, frameAt-weaken}
-use Rattle.twofold.specs.Rules.{SlotAuxiliary, SlotMain, slotAuxiliary, AuxiliaryOf, AuxiliariesOf}
-use Rattle.twofold.specs.TwoFold.{HoldsAuxiliary, TwoFold}
-use Rattle.twofold.proofs.Frames.{TwoFrame, TwoSpot, twoFrame-trans, twoFrame-weaken, twoFrame-at, twoFrame-inner, arm-twoFrame, twoSpot-weaken, child-spot}
-use Rattle.twofold.proofs.Kept.{Clear, clear-spot, kept-arm, kept-own, kept-two}
-use Rattle.twofold.proofs.Over.{TwoLeaves, TwoLeavesAt, two-over, two-level}
-use Rattle.twofold.proofs.Rules.{auxiliary-insert-of, rules-auxiliary-times, new-slot}
-use Rattle.secondary_update.specs.Insert.{insert♯}
+use Rattle.nodes.proofs.Spots.{record-arms, putArm-same}
+use Rattle.twofold_layout.specs.Rules.{SlotAuxiliary, SlotMain, slotAuxiliary, AuxiliaryOf, AuxiliariesOf}
+use Rattle.twofold_layout.specs.TwoFold.{HoldsAuxiliary, TwoFold}
+use Rattle.twofold_layout.proofs.Frames.{TwoFrame, TwoSpot, twoFrame-weaken, twoFrame-at, twoFrame-inner, arm-twoFrame, twoSpot-weaken, child-spot}
+use Rattle.twofold_layout.proofs.Kept.{Clear, clear-spot, kept-arm, kept-own, kept-two}
+use Rattle.twofold_layout.proofs.Over.{TwoLeaves, TwoLeavesAt, two-over, two-level}
+use Rattle.twofold_layout.proofs.Rules.{auxiliary-insert-of, rules-auxiliary-times, new-slot}
+use Rattle.secondary_update.specs.Insert.{auxiliaryInsert♯}
 use Rattle.secondary_update.proofs.Auxiliaries.{carried, auxiliary-insert}
 
 -- an arm written at a spot leaves a tree whose names the spot is apart from
-pub arm-kept : {f : ℕ → Mark} {C at e : ℕ} {P : ℕ → Type 0} (zs : List ℕ) (a : Arm) (t : SlotMain) → at + 4 ≤ length zs → TwoSpot C P at
+pub arm-kept : {f : ℕ → Mark} {C at e : ℕ} {P : ℕ → Type 0} (zs : List ℕ) (a : Arm) (t : SlotMain) → TwoSpot C P at
     → ((s : ℕ) → Names t s → P s) → AuxiliariesOf f t → TwoFold f C e zs t → TwoFold f C e (putArm zs at a) t
-arm-kept {C = C} {at = at} {e = e} zs a t room spot w of h =
-    let b : TwoFrame C 0 (λ s. ⊥) (λ s. ⊥) at 4 zs (putArm zs at a) = arm-twoFrame zs at a room in
-    kept-two (λ s p. absurd p) (clear-spot spot) b e t (λ q k. absurd k) (λ s p. absurd p) (λ s k. absurd k) of (λ s k. spot .offNodes s (w s k)) h
+arm-kept {C = C} {at = at} {e = e} zs a t spot w of h =
+    let b : TwoFrame C 0 (λ s. ⊥) (λ s. ⊥) at 4 zs (putArm zs at a) = arm-twoFrame zs at a in
+    kept-two (λ s p. absurd p) (clear-spot spot) b e t (λ q k. absurd k) (λ s p. absurd p) (λ s k. absurd k) of
+    (λ s k. apart-sym (mainPlace s) 12 at 4 (spot .offNodes s (w s k))) h
 
 -- the arm of a tree put at its spot
 pub put-two : {f : ℕ → Mark} {C d at : ℕ} {xs ys zs : List ℕ} {a : Arm} (t : SlotMain) → at + 4 ≤ length xs → TwoSpot C (Names t) at → AuxiliariesOf f t
@@ -46,8 +48,8 @@ put-two {at = at} {zs = zs} {a = a} t room spot of b h =
     let fits : at + 4 ≤ length zs = omega (arith, h .frame .long, b .long) in
     record {
       is = putArm-same zs at a fits ∙ h .is;
-      held = arm-kept zs a t fits spot (λ s k. k) of (h .held);
-      frame = twoFrame-trans b (twoFrame-trans (twoFrame-at (h .frame)) (arm-twoFrame zs at a fits));
+      held = arm-kept zs a t spot (λ s k. k) of (h .held);
+      frame = unchanged-trans b (unchanged-trans (twoFrame-at (h .frame)) (arm-twoFrame zs at a));
     }
 
 -- THE AUXILIARY TREE: of the words ys, an insertion of slot s into the auxiliary tree o of the slots l has left p
@@ -58,9 +60,9 @@ pub record AuxiliaryGrown (f : ℕ → Mark) (C s d name : ℕ) (ys : List ℕ) 
   pub sound : p .out ≡ damaged → ⊥
 
 module _ (f : ℕ → Mark) (C s d name : ℕ) (ys l : List ℕ) (small : C ≤ 65536) (inC : s < C) (low : d < D C) (named : name < C) (long : length ys ≡ W C)
-    (c : getD ys capacityPlace 0 ≡ C) (marked : slotMark ys s ≡ f s) (new : countIf (slotSpace f sheet .same s) l ≡ 0) where
+    (marked : slotMark ys s ≡ f s) (new : countIf (slotSpace f sheet .same s) l ≡ 0) where
   abbrev grownWords : After ℕ
-  grownWords = insert♯ alongY deepest (recordPlace (levelPlace C d)) (f s) s true (auxiliaryPlace name) ys
+  grownWords = auxiliaryInsert♯ (levelPlace C d) C (f s) s name ys
 
   tree-grown : (u : Tree ℕ (List ℕ)) → armAt ys (auxiliaryPlace name) ≡ armOf alongY f u → Held alongY f (recordPlace (levelPlace C d)) C ys u
       → AuxiliaryOf f l (some u) → AuxiliaryGrown f C s d name ys (some u) l grownWords
@@ -70,7 +72,7 @@ module _ (f : ℕ → Mark) (C s d name : ℕ) (ys l : List ℕ) (small : C ≤ 
       let o : Sorted (slotAxis f alongY) (marks u) = subst (λ t. Sorted (slotAxis f alongY) (marks t)) (sym e) (a .sorted) in
       let bag : SameBag (marks u) l = subst (λ t. SameBag (marks t) l) (sym e) (a .bag) in
       let z : times s u ≡ 0 = new-slot f s u (bag (slotSpace f sheet .same s) ∙ new) in
-      let k = auxiliary-insert f (levelPlace C d) C ys (two-level C d (length ys) small low long) c s name u (omega arith) named is h b o inC marked z in
+      let k = auxiliary-insert f (levelPlace C d) C ys (two-level C d (length ys) small low long) s name u (omega arith) named is h b o inC marked z in
       let of = auxiliary-insert-of f s l (some u) new a in
       record {
         holds = record { tree = k .tree; is = k .is; arm = k .leaves .is; held = k .leaves .held };
@@ -80,7 +82,7 @@ module _ (f : ℕ → Mark) (C s d name : ℕ) (ys l : List ℕ) (small : C ≤ 
       }
 
   pub auxiliary-grown : (o : SlotAuxiliary) → HoldsAuxiliary f C d name ys o → AuxiliaryOf f l o
-      → AuxiliaryGrown f C s d name ys o l (insert♯ alongY deepest (recordPlace (levelPlace C d)) (f s) s true (auxiliaryPlace name) ys)
+      → AuxiliaryGrown f C s d name ys o l (auxiliaryInsert♯ (levelPlace C d) C (f s) s name ys)
   auxiliary-grown o h a =
       subst (λ o. AuxiliaryGrown f C s d name ys o l grownWords) (sym (h .is)) (tree-grown (h .tree) (h .arm) (h .held) (subst (AuxiliaryOf f l) (h .is) a))
 
@@ -99,16 +101,12 @@ module _ {f : ℕ → Mark} {C d at : ℕ} (i : SlotAuxiliary) (l r : SlotMain) 
       let clear : Clear C other 4 = clear-spot (child-spot {P = Names u} name other inC inP out low high) in
       let fits : mainPlace name + 8 ≤ length ws = omega (arith, a .long) in
       record {
-        is = kept-arm inP clear a at (twoSpot-weaken w spot) (beside (spot .offNodes name (names-own i l r apart name refl))) ∙ is;
+        is = kept-arm inP clear a at (twoSpot-weaken w spot) (λ k. omega (arith, spot .offNodes name (names-own i l r apart name refl) (omega arith))) ∙ is;
         held = two-over i l r (record-arms ws (mainPlace name) fits ∙ ap₂ arms el er)
-            (kept-own inP clear a d name i (omega arith) within inC out (inl (omega arith)) aux) hl hr apart;
-        frame = twoFrame-trans before (twoFrame-at (twoFrame-weaken (omega arith) (λ s k. tells s k) v (twoFrame-inner name low (omega arith) a)));
+            (kept-own inP clear a d name i (omega arith) within inC out (omega arith) aux) hl hr apart;
+        frame = unchanged-trans before (twoFrame-at (twoFrame-weaken (omega arith) (λ s k. tells s k) v (twoFrame-inner name low (omega arith) a)));
       }
     where
-      beside : (at + 4 ≤ mainPlace (least r)) ⊎ (mainPlace (least r) + 12 ≤ at) → (at + 4 ≤ other) ⊎ (other + 4 ≤ at)
-      beside (inl h) = inl (omega arith)
-      beside (inr h) = inr (omega arith)
-
       tells : (s : ℕ) → Names u s ⊎ (s ≡ least r) → Names (node i l r) s
       tells s (inl k) = w s k
       tells s (inr e) = names-own i l r apart s e
@@ -125,8 +123,8 @@ module _ {f : ℕ → Mark} {C d at : ℕ} (i : SlotAuxiliary) (l r : SlotMain) 
       let right = child-spot {P = Names l} name (mainPlace name + 4) inC inP out (omega arith) (omega arith) in
       two-way l (mainPlace name) (names-left i l r) (λ s k. omega (arith, times-node s i l r)) out (omega arith) (omega arith) inC within (h .frame) (h .held)
       (kept-two inP clear (h .frame) (suc d) r within (λ s k. inl (omega (arith, k .0, apart s))) (λ s k. omega (arith, apart s)) of
-      (λ s k. by-order s name (λ o. inr (omega arith)) (λ e. absurd (k .1 e)) (λ o. inl (omega arith))) hr)
-      (h .is) (kept-arm inP clear (h .frame) (mainPlace name + 4) right (inr (omega arith)) ∙ er)
+      (λ s k. omega (arith, k .1)) hr)
+      (h .is) (kept-arm inP clear (h .frame) (mainPlace name + 4) right (omega arith) ∙ er)
 
   pub two-way-right : TwoFold f C (suc d) zs l → AuxiliariesOf f l → armAt zs (mainPlace (least r)) ≡ armOf alongX f l
       → TwoLeavesAt f C (suc d) (mainPlace (least r) + 4) zs ws r → TwoLeavesAt f C d at xs ws (node i l r)
@@ -141,8 +139,8 @@ module _ {f : ℕ → Mark} {C d at : ℕ} (i : SlotAuxiliary) (l r : SlotMain) 
       two-way r (mainPlace name + 4) (λ s k. names-right i l r apart s (k .0)) (λ s k. omega (arith, times-node s i l r)) out (omega arith) (omega arith) inC
       within (h .frame)
       (kept-two inP clear (h .frame) (suc d) l within (λ s k. inl (omega (arith, k .0, apart s))) (λ s k. omega (arith, apart s)) of
-      (λ s k. by-order s name (λ o. inr (omega arith)) (λ e. absurd (other s k e)) (λ o. inl (omega arith))) hl)
-      (h .held) (kept-arm inP clear (h .frame) (mainPlace name) left (inl (omega arith)) ∙ el) (h .is)
+      (λ s k. omega (arith, other s k)) hl)
+      (h .held) (kept-arm inP clear (h .frame) (mainPlace name) left (omega arith) ∙ el) (h .is)
     where
       other : (s : ℕ) → Names l s → s ≡ least r → ⊥
       other s k e = let p = subst (λ q. 0 < times q r) (sym e) (times-least r) in omega (arith, k .0, apart s)

@@ -1,49 +1,51 @@
 -- The mirror of the insertion into the two-fold tree. Assumes nothing.
-use Prim.Native.Nat.{ℕ, zero, suc, _+_, _-_, _/_, _%_}
+use Prim.Native.Nat.{ℕ, zero, suc, _+_, _*_, _-_, _/_, _%_, _≤_, _<_, _^_}
 use mathlib.Core.Path.{_≡_, refl}
 use mathlib.Core.Bool.{Bool, true, false, not}
 use mathlib.Core.List.{List}
 use native.Mathlib.Omega.{arith}
-use lib.Dec.{eqb}
-use lib.ListN.{getD}
+use lib.Dec.{leb, eqb}
+use lib.ListN.{length}
 use Rattle.model.specs.Lists.{if_then_else_}
-use Rattle.model.specs.Sheet.{Mark, belowX, alongX, alongY}
-use Rattle.table.specs.Layout.{capacityPlace, mainPlace, auxiliaryPlace, rootPlace, recordPlace, deepest, damaged}
+use Rattle.model.specs.Sheet.{Mark, belowX, alongX}
+use Rattle.table.specs.Layout.{armWidth, runsEnd, mainPlace, auxiliaryPlace, rootPlace}
+use Rattle.table.specs.Limits.{deepest, damaged, noSlot}
 use Rattle.table.specs.Marks.{slotMark}
-use Rattle.nodes.specs.Arms.{Arm, Record, leafArm, grownArm, armAt, putArm, recordAt}
+use Rattle.nodes.specs.Arms.{Arm, Record, leafArm, grownArm, armAt, putArm, recordAt, childAt}
 use Rattle.table.specs.After.{After, after}
-use Rattle.twofold.specs.Levels.{topLevel, deeper}
-use Rattle.secondary_update.specs.Insert.{unsteady♯, childPlace, split♯, insert♯}
+use Rattle.twofold_layout.specs.Levels.{topLevel, deeper}
+use Rattle.secondary_update.specs.Insert.{split♯, insert♯, auxiliaryInsert♯}
+use Rattle.nodes.specs.Weights.{unbalances}
 use Rattle.primary_build.specs.Build.{Freshly, mainRebuild♯}
+
+-- the arm at the word `at`, and the slots and runs of a table of that capacity are there; s is one of the slots
+abbrev pub Stands : ℕ → ℕ → ℕ → List ℕ → Type 0
+Stands capacity s at xs = (s < capacity) × (at < 2 ^ 40) × (at + armWidth ≤ length xs) × (runsEnd capacity ≤ length xs)
 
 -- the name of the node of a leaf and a mark
 unfoldable pub splitName : Mark → ℕ → Arm → List ℕ → ℕ
 splitName m s q xs = if belowX m (slotMark xs (q .node / 2)) then q .node / 2 else s
 
 -- the auxiliary tree of that node: the leaf's slot k alone, and then the mark's slot too
-unfoldable pub pairAuxiliary : Mark → ℕ → ℕ → ℕ → ℕ → List ℕ → After ℕ
-pairAuxiliary m s base name k xs =
-    insert♯ alongY deepest (recordPlace base) m s true (auxiliaryPlace name) (putArm xs (auxiliaryPlace name) (leafArm k (slotMark xs k .y)))
+unfoldable pub pairAuxiliary : ℕ → Mark → ℕ → ℕ → ℕ → ℕ → List ℕ → After ℕ
+pairAuxiliary capacity m s base name k xs =
+    auxiliaryInsert♯ base capacity m s name (putArm xs (auxiliaryPlace name) (leafArm k (slotMark xs k .y)))
 
-unfoldable pub mainLeaf♯ : Mark → ℕ → ℕ → ℕ → Arm → List ℕ → After ℕ
-mainLeaf♯ m s base at q xs = pairAuxiliary m s base (splitName m s q xs) (q .node / 2) (split♯ alongX mainPlace m s at q xs)
-
--- no slot of any table
-abbrev pub noSlot : ℕ
-noSlot = 4294967295
+unfoldable pub mainLeaf♯ : ℕ → Mark → ℕ → ℕ → ℕ → Arm → List ℕ → After ℕ
+mainLeaf♯ capacity m s base at q xs = pairAuxiliary capacity m s base (splitName m s q xs) (q .node / 2) (split♯ alongX mainPlace m s at q xs)
 
 unfoldable pub putRebuilt : ℕ → ℕ → After Freshly → After ℕ
 putRebuilt at w p = if eqb (p .out .arm .weight) 0 then after damaged (p .words) else after w (putArm (p .words) at (p .out .arm))
 
-unfoldable pub rebuiltAt : ℕ → ℕ → Arm → List ℕ → After ℕ
-rebuiltAt base at a xs = putRebuilt at (a .weight) (mainRebuild♯ base noSlot (a .weight) a xs)
+unfoldable pub rebuiltAt : ℕ → ℕ → ℕ → Arm → List ℕ → After ℕ
+rebuiltAt capacity base at a xs = putRebuilt at (a .weight) (mainRebuild♯ capacity base noSlot (a .weight) (a .weight) (a .node) xs)
 
 -- once the mark has been put into the main tree alone
-unfoldable pub afreshOnce : ℕ → ℕ → After ℕ → After ℕ
-afreshOnce base at p = if eqb (p .out) damaged then after damaged (p .words) else rebuiltAt base at (armAt (p .words) at) (p .words)
+unfoldable pub afreshOnce : ℕ → ℕ → ℕ → After ℕ → After ℕ
+afreshOnce capacity base at p = if eqb (p .out) damaged then after damaged (p .words) else rebuiltAt capacity base at (armAt (p .words) at) (p .words)
 
-unfoldable pub mainAfresh♯ : Mark → ℕ → ℕ → ℕ → List ℕ → After ℕ
-mainAfresh♯ m s base at xs = afreshOnce base at (insert♯ alongX deepest mainPlace m s false at xs)
+unfoldable pub mainAfresh♯ : ℕ → Mark → ℕ → ℕ → ℕ → List ℕ → After ℕ
+mainAfresh♯ capacity m s base at xs = afreshOnce capacity base at (insert♯ alongX deepest capacity mainPlace m s false at xs)
 
 -- where the arm's level begins, where the arm stands, and the words
 abbrev pub MainInsertion : Type 0
@@ -55,19 +57,21 @@ insertOn rec base at p = if eqb (p .out) damaged then after damaged (p .words) e
 
 unfoldable pub mainWay : MainInsertion → ℕ → Mark → ℕ → ℕ → ℕ → Bool → Record → ℕ → Arm → List ℕ → After ℕ
 mainWay rec capacity m s base name left p at a xs =
-    if unsteady♯ true left (p .left .weight) (p .right .weight) then mainAfresh♯ m s base at xs
-    else insertOn rec (deeper base capacity) (childPlace mainPlace name left)
-    (insert♯ alongY deepest (recordPlace base) m s true (auxiliaryPlace name) (putArm xs at (grownArm a (m .x))))
+    if unbalances true left (p .left .weight) (p .right .weight) then mainAfresh♯ capacity m s base at xs
+    else insertOn rec (deeper base capacity) (childAt (mainPlace name) left)
+    (auxiliaryInsert♯ base capacity m s name (putArm xs at (grownArm a (m .x))))
 
 unfoldable pub mainInsertRecord : MainInsertion → ℕ → Mark → ℕ → ℕ → ℕ → Record → ℕ → Arm → List ℕ → After ℕ
 mainInsertRecord rec capacity m s base name p at a xs =
     if not (eqb (p .left .weight + p .right .weight) (a .weight)) then after damaged xs
     else mainWay rec capacity m s base name (belowX m (slotMark xs name)) p at a xs
 
+-- a node of no slot is damage
 unfoldable pub mainInsertArm : MainInsertion → ℕ → Mark → ℕ → ℕ → ℕ → Arm → List ℕ → After ℕ
 mainInsertArm rec capacity m s base at a xs =
-    if eqb (a .node % 2) 0 then mainLeaf♯ m s base at a xs
-    else mainInsertRecord rec capacity m s base (a .node / 2) (recordAt xs (mainPlace (a .node / 2))) at a xs
+    if leb capacity (a .node / 2) then after damaged xs
+    else (if eqb (a .node % 2) 0 then mainLeaf♯ capacity m s base at a xs
+    else mainInsertRecord rec capacity m s base (a .node / 2) (recordAt xs (mainPlace (a .node / 2))) at a xs)
 
 unfoldable pub mainInsertNode : MainInsertion → ℕ → Mark → ℕ → MainInsertion
 mainInsertNode rec capacity m s base at xs = mainInsertArm rec capacity m s base at (armAt xs at) xs
@@ -90,5 +94,5 @@ unfoldable pub insertRoot : Mark → ℕ → ℕ → Arm → List ℕ → After 
 insertRoot m s capacity a xs =
     if eqb (a .weight) 0 then after 0 (putArm xs rootPlace (leafArm s (m .x))) else insertBeneath♯ deepest capacity m s (topLevel capacity) rootPlace xs
 
-unfoldable pub mainInsert♯ : Mark → ℕ → List ℕ → After ℕ
-mainInsert♯ m s xs = insertRoot m s (getD xs capacityPlace 0) (armAt xs rootPlace) xs
+unfoldable pub mainInsert♯ : ℕ → Mark → ℕ → List ℕ → After ℕ
+mainInsert♯ capacity m s xs = insertRoot m s capacity (armAt xs rootPlace) xs

@@ -1,55 +1,68 @@
 // Insertion: down from the root, each arm on the way written once, and each auxiliary tree on the way updated, before the node's children are looked at.
 ghost use mathlib.Core.Path.{_≡_};
-ghost use Prim.Native.Nat.{_<_, _^_};
+ghost use Prim.Native.Nat.{_/_, _<_, _≤_};
+ghost use lib.ListN.{length};
 ghost use Rattle.geometry.specs.Values.{markValue};
 ghost use Rattle.table.specs.After.{after};
+ghost use Rattle.table.specs.Layout.{runsEnd};
 ghost use Rattle.nodes.specs.Values.{primaryArm};
-ghost use Rattle.primary_insert.specs.Insert.{mainLeaf♯, mainAfresh♯, insertBeneath♯, mainInsert♯};
+ghost use Rattle.primary_insert.specs.Insert.{Stands, mainLeaf♯, mainAfresh♯, insertBeneath♯, mainInsert♯};
 use crate::main_tree;
 use geometry::Mark;
 use nodes::primary::PrimaryArm;
 use nodes::primary::PrimaryRecord;
 use nodes::secondary::SecondaryArm;
-use table::header;
+use nodes::weights;
+use table::layout;
 use table::limits;
 use table::slots;
-use table::weights;
-use twofold::levels;
+use twofold_layout::levels;
 
 // Makes a node of a leaf and the mark m of slot s, with the auxiliary tree of the two. Two marks are balanced: nothing is built afresh.
-fn insert_at_leaf(t: &mut [u32], base: u32, at: usize, q: PrimaryArm, m: Mark, s: u32) -> u32
-    requires { ⌜ at < 2 ^ 60 ⌝ }
-    ensures { λ r. ⌜ after r (now (t .exit)) ≡ mainLeaf♯ (markValue m) s base at (primaryArm q) (now (t .entry)) ⌝ }
+fn insert_at_leaf(
+    t: &mut [u32],
+    base: u32,
+    capacity: u32,
+    at: usize,
+    q: PrimaryArm,
+    m: Mark,
+    s: u32,
+) -> u32
+    requires { ⌜ (primaryArm q .node / 2 < capacity) × Stands capacity s at (now t) ⌝ }
+    ensures { λ r. ⌜ after r (now (t .exit)) ≡ mainLeaf♯ capacity (markValue m) s base at (primaryArm q) (now (t .entry)) ⌝ }
 {
-    let name = main_tree::split(t, at, q, m, s);
+    let name = main_tree::split(t, capacity, at, q, m, s);
     let node = q.node;
-    let other = slots::mark_at(t, node.slot());
-    PrimaryRecord::put_auxiliary(t, name, SecondaryArm::leaf(node.slot(), other.y));
-    secondary_update::insert::insert(t, base, name, m, s)
+    let k = node.slot();
+    let other = slots::load(t, k);
+    PrimaryRecord::store_auxiliary(t, name, SecondaryArm::leaf(k, other.y));
+    secondary_update::insert::insert(t, base, capacity, name, m, s)
 }
 
 // Puts the mark into the main tree whose arm stands at the word `at`, and builds that tree afresh with all its auxiliary trees; gives its weight.
-fn insert_afresh(t: &mut [u32], base: u32, at: usize, m: Mark, s: u32) -> u32
-    requires { ⌜ at < 2 ^ 40 ⌝ }
-    ensures { λ r. ⌜ after r (now (t .exit)) ≡ mainAfresh♯ (markValue m) s base at (now (t .entry)) ⌝ }
+fn insert_afresh(t: &mut [u32], base: u32, capacity: u32, at: usize, m: Mark, s: u32) -> u32
+    requires { ⌜ Stands capacity s at (now t) ⌝ }
+    ensures { λ r. ⌜ after r (now (t .exit)) ≡ mainAfresh♯ capacity (markValue m) s base at (now (t .entry)) ⌝ }
 {
-    let done = main_tree::put(t, at, m, s, limits::DEEPEST);
+    let done = main_tree::put(t, capacity, at, m, s);
     if done == limits::DAMAGED {
         return limits::DAMAGED;
     }
-    let a = PrimaryArm::at(t, at);
+    let a = PrimaryArm::load(t, at);
     let fresh = primary_build::build::rebuild(
         t,
         base,
-        a,
-        primary_build::collect::NO_SLOT,
+        capacity,
+        a.node,
+        a.weight,
+        limits::NO_SLOT,
         a.weight,
     );
     let b = fresh.arm;
     if b.weight == 0 {
         return limits::DAMAGED;
     }
-    PrimaryArm::put(t, at, b);
+    PrimaryArm::store(t, at, b);
     a.weight
 }
 
@@ -63,7 +76,7 @@ fn insert_beneath(
     s: u32,
     fuel: u32,
 ) -> u32
-    requires { ⌜ start < 2 ^ 40 ⌝ }
+    requires { ⌜ Stands capacity s start (now t) ⌝ }
     ensures { λ r. ⌜ after r (now (t .exit)) ≡ insertBeneath♯ fuel capacity (markValue m) s level start (now (t .entry)) ⌝ }
 {
     let mut base = level;
@@ -71,25 +84,28 @@ fn insert_beneath(
     let mut left = fuel;
     while 0 < left {
         left -= 1;
-        let a = PrimaryArm::at(t, at);
+        let a = PrimaryArm::load(t, at);
         let node = a.node;
-        if node.is_leaf() {
-            return insert_at_leaf(t, base, at, a, m, s);
-        }
         let name = node.slot();
-        let p = PrimaryRecord::at(t, name);
+        if capacity <= name {
+            return limits::DAMAGED;
+        }
+        if node.is_leaf() {
+            return insert_at_leaf(t, base, capacity, at, a, m, s);
+        }
+        let p = PrimaryRecord::load(t, name);
         let l = p.left;
         let r = p.right;
         if weights::disagree(l.weight, r.weight, a.weight) {
             return limits::DAMAGED;
         }
-        let below = m.below_x(slots::mark_at(t, name));
-        let next = main_tree::child_place(name, below);
-        if secondary_update::insert::unsteady(true, below, l.weight, r.weight) {
-            return insert_afresh(t, base, at, m, s);
+        let below = m.below_x(slots::load(t, name));
+        let next = PrimaryRecord::child(name, below);
+        if weights::unbalances(true, below, l.weight, r.weight) {
+            return insert_afresh(t, base, capacity, at, m, s);
         }
-        PrimaryArm::put(t, at, a.grown(m.x));
-        let done = secondary_update::insert::insert(t, base, name, m, s);
+        PrimaryArm::store(t, at, a.grown(m.x));
+        let done = secondary_update::insert::insert(t, base, capacity, name, m, s);
         if done == limits::DAMAGED {
             return limits::DAMAGED;
         }
@@ -100,20 +116,20 @@ fn insert_beneath(
 }
 
 // Inserts the mark m, which stands in slot s; gives the weight of the main node built afresh, or 0. The first mark is a lone leaf.
-pub fn insert(t: &mut [u32], m: Mark, s: u32) -> u32
-    ensures { λ r. ⌜ after r (now (t .exit)) ≡ mainInsert♯ (markValue m) s (now (t .entry)) ⌝ }
+pub fn insert(t: &mut [u32], capacity: u32, m: Mark, s: u32) -> u32
+    requires { ⌜ (s < capacity) × (runsEnd capacity ≤ length (now t)) ⌝ }
+    ensures { λ r. ⌜ after r (now (t .exit)) ≡ mainInsert♯ capacity (markValue m) s (now (t .entry)) ⌝ }
 {
-    let root = PrimaryArm::at(t, header::ROOT);
+    let root = PrimaryArm::load(t, layout::ROOT);
     if root.weight == 0 {
-        PrimaryArm::put(t, header::ROOT, PrimaryArm::leaf(s, m.x));
+        PrimaryArm::store(t, layout::ROOT, PrimaryArm::leaf(s, m.x));
         return 0;
     }
-    let capacity = header::capacity(t);
     insert_beneath(
         t,
         levels::top(capacity),
         capacity,
-        header::ROOT,
+        layout::ROOT,
         m,
         s,
         limits::DEEPEST,

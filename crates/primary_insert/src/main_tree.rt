@@ -1,77 +1,70 @@
 // Insertion into the main tree alone, without mending.
 ghost use mathlib.Core.Path.{_≡_};
 ghost use mathlib.Core.Bool.{false};
-ghost use Prim.Native.Nat.{_<_, _^_};
+ghost use Prim.Native.Nat.{_/_, _<_, _^_};
 ghost use Rattle.model.specs.Sheet.{alongX};
 ghost use Rattle.geometry.specs.Values.{markValue};
 ghost use Rattle.table.specs.After.{after};
 ghost use Rattle.table.specs.Layout.{mainPlace};
+ghost use Rattle.table.specs.Limits.{deepest};
 ghost use Rattle.nodes.specs.Values.{primaryArm};
-ghost use Rattle.secondary_update.specs.Insert.{childPlace, split♯, insert♯};
-ghost use Rattle.primary_insert.specs.Insert.{splitName};
+ghost use Rattle.secondary_update.specs.Insert.{split♯, insert♯};
+ghost use Rattle.primary_insert.specs.Insert.{splitName, Stands};
 use geometry::Mark;
 use nodes::primary::PrimaryArm;
 use nodes::primary::PrimaryRecord;
+use nodes::weights;
 use table::limits;
 use table::slots;
-use table::weights;
-
-// The word at which the left, or the right, arm of the main node of that name stands.
-pub fn child_place(name: u32, left: bool) -> usize
-    ensures is { λ r. ⌜ r ≡ childPlace mainPlace name left ⌝ }
-    ensures small { λ r. ⌜ r < 2 ^ 40 ⌝ }
-{
-    let at = 67 + 16 * (name as usize);
-    if left {
-        return at;
-    }
-    at + 4
-}
 
 // Makes a node of a leaf and the mark m of slot s, the smaller left, named by the larger; its arm goes to the word `at`. Gives the name.
-pub fn split(t: &mut [u32], at: usize, q: PrimaryArm, m: Mark, s: u32) -> u32
-    requires { ⌜ at < 2 ^ 60 ⌝ }
+pub fn split(t: &mut [u32], capacity: u32, at: usize, q: PrimaryArm, m: Mark, s: u32) -> u32
+    requires { ⌜ (primaryArm q .node / 2 < capacity) × Stands capacity s at (now t) ⌝ }
     ensures name { λ r. ⌜ r ≡ splitName (markValue m) s (primaryArm q) (now (t .entry)) ⌝ }
+    ensures slot { λ r. ⌜ r < capacity ⌝ }
     ensures words { λ _. ⌜ now (t .exit) ≡ split♯ alongX mainPlace (markValue m) s at (primaryArm q) (now (t .entry)) ⌝ }
 {
     let new = PrimaryArm::leaf(s, m.x);
     let node = q.node;
     let name = node.slot();
-    if m.below_x(slots::mark_at(t, name)) {
-        PrimaryRecord::put(t, name, new, q);
-        PrimaryArm::put(t, at, PrimaryArm::over(name, new, q));
+    if m.below_x(slots::load(t, name)) {
+        PrimaryRecord::store(t, name, new, q);
+        PrimaryArm::store(t, at, PrimaryArm::over(name, new, q));
         return name;
     }
-    PrimaryRecord::put(t, s, q, new);
-    PrimaryArm::put(t, at, PrimaryArm::over(s, q, new));
+    PrimaryRecord::store(t, s, q, new);
+    PrimaryArm::store(t, at, PrimaryArm::over(s, q, new));
     s
 }
 
-// Inserts the mark m of slot s beneath the arm at the word `start`.
-pub fn put(t: &mut [u32], start: usize, m: Mark, s: u32, fuel: u32) -> u32
-    requires { ⌜ start < 2 ^ 40 ⌝ }
-    ensures { λ r. ⌜ after r (now (t .exit)) ≡ insert♯ alongX fuel mainPlace (markValue m) s false start (now (t .entry)) ⌝ }
+// Inserts the mark m of slot s beneath the arm at the word `start`. A node of no slot is damage.
+pub fn put(t: &mut [u32], capacity: u32, start: usize, m: Mark, s: u32) -> u32
+    requires { ⌜ Stands capacity s start (now t) ⌝ }
+    ensures { λ r. ⌜ after r (now (t .exit)) ≡ insert♯ alongX deepest capacity mainPlace (markValue m) s false start (now (t .entry)) ⌝ }
 {
     let mut at = start;
-    let mut left = fuel;
+    let mut left = limits::DEEPEST;
     while 0 < left {
         left -= 1;
-        let a = PrimaryArm::at(t, at);
+        let a = PrimaryArm::load(t, at);
         let node = a.node;
+        let name = node.slot();
+        if capacity <= name {
+            return limits::DAMAGED;
+        }
         if node.is_leaf() {
-            split(t, at, a, m, s);
+            split(t, capacity, at, a, m, s);
             return 0;
         }
-        let name = node.slot();
-        let p = PrimaryRecord::at(t, name);
+        let p = PrimaryRecord::load(t, name);
         let l = p.left;
         let r = p.right;
         if weights::disagree(l.weight, r.weight, a.weight) {
             return limits::DAMAGED;
         }
-        let below = m.below_x(slots::mark_at(t, name));
-        PrimaryArm::put(t, at, a.grown(m.x));
-        at = child_place(name, below);
+        let below = m.below_x(slots::load(t, name));
+        PrimaryArm::store(t, at, a.grown(m.x));
+        at = PrimaryRecord::child(name, below);
     }
     limits::DAMAGED
 }

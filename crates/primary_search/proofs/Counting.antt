@@ -17,6 +17,7 @@ use Rattle.model.specs.Slots.{slotSpace, slotAxis}
 use Rattle.model.specs.Laws.{AxisLaws, Sorted}
 use Rattle.model.proofs.Logic.{by-cases}
 use Rattle.model.proofs.Lists.{sameBag-length}
+use Rattle.model.proofs.Sorted.{sorted-left, sorted-right}
 use Rattle.model.proofs.Orders.{alongX-laws, alongY-laws, alongX-straight, alongY-straight}
 use Rattle.model.proofs.Slots.{slotAxis-laws}
 use Rattle.model.proofs.Search.{arrive-cases}
@@ -25,18 +26,19 @@ use Rattle.table.specs.Layout.{capacityPlace, mainPlace, rootPlace, levelPlace}
 use Rattle.table.specs.Marks.{slotMark}
 use Rattle.nodes.specs.Arms.{Arm, Record, arms, armAt, recordAt}
 use Rattle.nodes.specs.Holds.{armOf}
-use Rattle.table.specs.Tally.{mostVisits, pack}
+use Rattle.table.specs.Tally.{visited, pack}
+use Rattle.table.specs.Limits.{mostVisits}
+use Rattle.nodes.specs.Count.{added}
 use Rattle.nodes.proofs.Held.{held-weight}
 use Rattle.nodes.proofs.Levels.{held-shallow}
-use Rattle.table.proofs.Tallies.{visited-pack, pack-visits}
-use Rattle.twofold.specs.Levels.{deeper}
-use Rattle.twofold.specs.Rules.{SlotAuxiliary, SlotMain, slotAuxiliary, slotMain, ByRules}
-use Rattle.twofold.specs.TwoFold.{TwoFold}
-use Rattle.nodes.proofs.Searching.{Taken, Laid, count-adds}
+use Rattle.twofold_layout.specs.Levels.{deeper}
+use Rattle.twofold_layout.specs.Rules.{SlotAuxiliary, SlotMain, slotAuxiliary, slotMain, ByRules}
+use Rattle.twofold_layout.specs.TwoFold.{TwoFold}
+use Rattle.nodes.proofs.Searching.{clear-past, found-clear, Arrives, Laid, count-adds, added-both, added-swap, added-arrive}
 use Rattle.secondary_search.proofs.Counting.{Carries, searched, count-holds}
 use Rattle.secondary_search.proofs.Listing.{carriesBag-carries}
 use Rattle.primary_search.specs.Count.{leaf♯, handed♯, mainKind, mainSearch♯, countRoot, mainCount♯}
-use Rattle.twofold.proofs.Over.{deeper-level, top-level}
+use Rattle.twofold_layout.proofs.Over.{deeper-level, top-level}
 use Rattle.primary_search.proofs.Ready.{ReadyNode, Ready, inside-settled, ready}
 
 pub count-none : (xs : List ℕ) (b : Box) → armAt xs rootPlace .weight ≡ 0 → mainCount♯ xs b ≡ 0
@@ -82,83 +84,87 @@ module _ (f : ℕ → Mark) (b : Box) where
     abbrev ordered : AxisLaws (slotSpace f sheet) (slotAxis f alongX)
     ordered = slotAxis-laws f sheet alongX alongX-laws
 
-    abbrev TakenHere : ℕ → SlotMain → Type 0
-    TakenHere = Taken (mainKind xs C b) alongX b f (slotAuxiliary f) ordered xs
+    abbrev ArrivesHere : ℕ → SlotMain → Type 0
+    ArrivesHere = Arrives (mainKind xs C b) alongX b f (slotAuxiliary f) ordered xs added added-both added-swap added-arrive
 
     abbrev LaidHere : ℕ → SlotMain → Type 0
-    LaidHere = Laid (mainKind xs C b) alongX b f (slotAuxiliary f) ordered xs
+    LaidHere = Laid (mainKind xs C b) alongX b f (slotAuxiliary f) ordered xs added added-both added-swap added-arrive
 
-    -- the arrival at a leaf, and at a node whose cell is inside
-    leaf-adds : (s : ℕ) → slotMark xs s ≡ f s → (k v : ℕ) → k + indicator (holds b (f s)) ≤ 65536 → v + 1 ≤ mostVisits
-        → leaf♯ xs b s (pack k v) ≡ pack (k + indicator (holds b (f s))) (v + 1)
-    unfolding leaf♯
-    leaf-adds s e k v hk hv =
-        rw e
-        (by-cases (holds b (f s))
-        (λ u. rw (u, visited-pack k v 1 (omega arith) (omega arith)))
-        (λ u. rw (u, visited-pack k v 0 (omega arith) (omega arith))))
+    -- the arrival at a leaf, at a node whose cell is inside, and at a tree that is clear
+    leaf-adds : (s : ℕ) → slotMark xs s ≡ f s → (tally : ℕ) → leaf♯ xs b s tally ≡ added (searchedMain (leaf s)) tally
+    unfolding leaf♯ added visited
+    leaf-adds s e tally = rw e (by-cases (holds b (f s)) (λ u. rw u) (λ u. rw u))
 
-    taken-leaf : (base s : ℕ) → slotMark xs s ≡ f s → TakenHere base (leaf s)
+    taken-leaf : (base s : ℕ) → slotMark xs s ≡ f s → (tally : ℕ) → handed♯ xs b base (2 * s) tally ≡ added (searchedMain (leaf s)) tally
     unfolding handed♯
-    taken-leaf base s e t k v room =
+    taken-leaf base s e tally =
         let even : (2 * s) % 2 ≡ 0 = omega arith in
         let half : (2 * s) / 2 ≡ s = omega arith in
-        rw (eq-eqb ((2 * s) % 2) 0 even, half) (leaf-adds s e k v (room .0) (room .1))
+        rw (eq-eqb ((2 * s) % 2) 0 even, half) (leaf-adds s e tally)
+
+    skipped : (t : SlotMain) → Sorted (slotAxis f alongX) (marks t) → clear (slotAxis f alongX) b t ≡ true → (tally : ℕ)
+        → visited tally 0 ≡ added (searchedMain t) tally
+    unfolding visited added
+    skipped t s e tally = rw (found-clear (mainKind xs C b) alongX b f (slotAuxiliary f) ordered xs added added-both added-swap added-arrive t s e)
 
     module _ (fine : boxCrossed b ≡ false) where
-      handed-node : (d : ℕ) (i : SlotAuxiliary) (l r : SlotMain) → ReadyNode f C xs d i l r → inside (slotAxis f alongX) b (node i l r) ≡ true
-          → (k v : ℕ) → k + slotAuxiliary f .count b i .found ≤ 65536 → v + (slotAuxiliary f .count b i .visits + 1) ≤ mostVisits
-          → handed♯ xs b (levelPlace C d) (2 * least r + 1) (pack k v)
-          ≡ pack (k + slotAuxiliary f .count b i .found) (v + (slotAuxiliary f .count b i .visits + 1))
+      taken-node : (d : ℕ) (i : SlotAuxiliary) (l r : SlotMain) → ReadyNode f C xs d i l r → inside (slotAxis f alongX) b (node i l r) ≡ true → (tally : ℕ)
+          → handed♯ xs b (levelPlace C d) (2 * least r + 1) tally ≡ added (searchedMain (node i l r)) tally
       unfolding handed♯
-      handed-node d i l r h e k v hk hv =
+      taken-node d i l r h e tally =
           let odd : ((2 * least r + 1) % 2 ≡ 0 → ⊥) = omega arith in
           let half : (2 * least r + 1) / 2 ≡ least r = omega arith in
-          let z : k + 0 ≡ k = omega arith in
           let a = h .auxiliary in
           let u = a .tree in
-          let hk′ = (rw (a .is) at hk) in
-          let hv′ = (rw (a .is) at hv) in
           rw (
             ne-eqb ((2 * least r + 1) % 2) 0 odd,
             half,
             a .arm,
+            e,
             a .is,
-            visited-pack k v 0 (omega arith) (omega arith),
-            z,
             count-holds f b (levelPlace C d) xs (alongY-straight b fine) u (a .records) (carriesBag-carries u (a .carries)) (inside-settled f C xs b d i l r h e) (a .sorted)
-                (a .shallow) k (v + 1) (omega arith) (omega arith),
-          ) (omega arith)
+                (a .shallow) (visited tally 0),
+          ) (sym (added-arrive (searched f b u) tally))
 
-      taken-node : (d : ℕ) (i : SlotAuxiliary) (l r : SlotMain) → ReadyNode f C xs d i l r → TakenHere (levelPlace C d) (node i l r)
-      taken-node d i l r h t k v room =
-          let hk = (rw t at room .0) in
-          let hv = (rw t at room .1) in
-          rw t (handed-node d i l r h t k v hk hv)
+      arrives : (d : ℕ) (t : SlotMain) → Ready f C xs d t → Sorted (slotAxis f alongX) (marks t) → ArrivesHere (levelPlace C d) t
+      arrives d (leaf s) h o = record {
+        takes = λ e. taken-leaf (levelPlace C d) s h;
+        skips = skipped (leaf s) o;
+        passes = λ e. skipped (leaf s) o (clear-past {I = SlotAuxiliary} (slotAxis f alongX) b (leaf s) e);
+      }
+      arrives d (node i l r) h o = record {
+        takes = taken-node d i l r (h .0);
+        skips = skipped (node i l r) o;
+        passes = λ e. skipped (node i l r) o (clear-past (slotAxis f alongX) b (node i l r) e);
+      }
 
       module _ (small : C ≤ 65536) where
-        laid : (d : ℕ) (t : SlotMain) → d + depth t ≤ 38 → Ready f C xs d t → LaidHere (levelPlace C d) t
-        laid d (leaf s) e h = taken-leaf (levelPlace C d) s h
-        laid d (node i l r) e h = (
+        laid : (d : ℕ) (t : SlotMain) → d + depth t ≤ 38 → Ready f C xs d t → Sorted (slotAxis f alongX) (marks t) → LaidHere (levelPlace C d) t
+        laid d (leaf s) e h o = arrives d (leaf s) h o
+        laid d (node i l r) e h o = (
           h .0 .children,
-          taken-node d i l r (h .0),
-          subst (λ base. LaidHere base l) (sym (deeper-level C d small (omega arith))) (laid (suc d) l (omega arith) (h .1)),
-          subst (λ base. LaidHere base r) (sym (deeper-level C d small (omega arith))) (laid (suc d) r (omega arith) (h .2)),
+          arrives d (node i l r) h o,
+          subst (λ base. LaidHere base l) (sym (deeper-level C d small (omega arith))) (laid (suc d) l (omega arith) (h .1) (sorted-left (marks l) (marks r) o)),
+          subst (λ base. LaidHere base r) (sym (deeper-level C d small (omega arith))) (laid (suc d) r (omega arith) (h .2) (sorted-right (marks l) (marks r) o)),
         )
 
-        count-tree : (t : SlotMain) → depth t ≤ 38 → Ready f C xs 0 t → Sorted (slotAxis f alongX) (marks t) → searchedMain t .visits ≤ mostVisits
-            → searchedMain t .found ≤ 65536
-            → mainSearch♯ xs C b (levelPlace C 0) (armOf alongX f t) ≡ pack (searchedMain t .found) (searchedMain t .visits)
+        count-tree : (t : SlotMain) → depth t ≤ 38 → Ready f C xs 0 t → Sorted (slotAxis f alongX) (marks t)
+            → mainSearch♯ xs C b (levelPlace C 0) (armOf alongX f t) ≡ added (searchedMain t) 0
         unfolding mainSearch♯
-        count-tree (leaf s) d h o hv hk =
+        count-tree (leaf s) d h o =
             let even : (2 * s) % 2 ≡ 0 = omega arith in
             let half : (2 * s) / 2 ≡ s = omega arith in
-            rw (eq-eqb ((2 * s) % 2) 0 even, half) (leaf-adds s h 0 0 (omega (arith, hk)) (omega (arith, hv)) ∙ omega arith)
-        count-tree (node i l r) d h s hv hk =
+            rw (eq-eqb ((2 * s) % 2) 0 even, half) (leaf-adds s h 0)
+        count-tree (node i l r) d h o =
             let odd : ((2 * least r + 1) % 2 ≡ 0 → ⊥) = omega arith in
             rw (ne-eqb ((2 * least r + 1) % 2) 0 odd)
-            (count-adds (mainKind xs C b) alongX b f (slotAuxiliary f) ordered xs (alongX-straight b fine) (levelPlace C 0) (node i l r) (omega arith)
-            (laid 0 (node i l r) (omega arith) h) s 0 0 (omega arith, omega arith) ∙ omega arith)
+            (count-adds (mainKind xs C b) alongX b f (slotAuxiliary f) ordered xs added added-both added-swap added-arrive (alongX-straight b fine) (levelPlace C 0)
+            (node i l r) (omega arith) (laid 0 (node i l r) (omega arith) h o) o 0)
+
+-- figures of a sound table fill their places in the tally
+added-pack : (g : Found) → g .found ≤ 65536 → g .visits ≤ mostVisits → added g 0 ≡ pack (g .found) (g .visits)
+unfolding added
+added-pack g k v = omega arith
 
 module _ (f : ℕ → Mark) (C : ℕ) (xs : List ℕ) where
   pub count-main-holds : (t : SlotMain) → armAt xs rootPlace ≡ armOf alongX f t → TwoFold f C 0 xs t → ByRules f t → C ≤ 65536
@@ -168,4 +174,5 @@ module _ (f : ℕ → Mark) (C : ℕ) (xs : List ℕ) where
   count-main-holds t root h k small c b fine hv =
       let g = ready f C xs small 0 t h k in
       rw (c, root, ne-eqb (weight t) 0 (omega (arith, weight-pos t)), top-level C small)
-      (count-tree f b C xs fine small t (held-shallow (h .main) (k .balanced) small) g (k .sorted) hv (omega (arith, found-weight f b C xs 0 t g, held-weight (h .main))))
+      (count-tree f b C xs fine small t (held-shallow (h .main) (k .balanced) small) g (k .sorted)
+      ∙ added-pack (searchedMain f b t) (omega (arith, found-weight f b C xs 0 t g, held-weight (h .main))) hv)

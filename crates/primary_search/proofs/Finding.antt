@@ -24,8 +24,9 @@ use Rattle.table.specs.Marks.{slotMark}
 use Rattle.nodes.specs.Arms.{Arm, arms, armAt, recordAt}
 use Rattle.nodes.specs.Holds.{number, armOf, times, Held}
 use Rattle.nodes.proofs.Held.{times-node, times-least, held-least, held-left, held-right}
-use Rattle.twofold.specs.Rules.{SlotAuxiliary, SlotMain}
-use Rattle.primary_search.specs.Find.{absent, findLeaf, findNode, findBeneath♯, findRoot, find♯}
+use Rattle.twofold_layout.specs.Rules.{SlotAuxiliary, SlotMain}
+use Rattle.primary_search.specs.Find.{findLeaf, findNode, findBeneath♯, findRoot, find♯}
+use Rattle.table.specs.Limits.{absent}
 
 pub find-none : (xs : List ℕ) (m : Mark) → armAt xs rootPlace .weight ≡ 0 → find♯ xs m ≡ absent
 unfolding find♯ findRoot

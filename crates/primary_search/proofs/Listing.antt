@@ -28,11 +28,11 @@ use Rattle.table.specs.Tally.{pack}
 use Rattle.table.specs.After.{After, after}
 use Rattle.nodes.proofs.Levels.{held-shallow}
 use Rattle.table.proofs.Tallies.{visited-pack, pack-visits, pack-found}
-use Rattle.twofold.specs.Rules.{SlotAuxiliary, SlotMain, slotAuxiliary, slotMain, AuxiliaryOf, AuxiliariesOf, ByRules}
-use Rattle.twofold.specs.TwoFold.{TwoFold}
+use Rattle.twofold_layout.specs.Rules.{SlotAuxiliary, SlotMain, slotAuxiliary, slotMain, AuxiliaryOf, AuxiliariesOf, ByRules}
+use Rattle.twofold_layout.specs.TwoFold.{TwoFold}
 use Rattle.secondary_search.proofs.Listing.{written, written-append, met, met-listed, carriesBag-carries, list-holds}
 use Rattle.primary_search.specs.List.{listMark, listLeaf♯, listChildren, listInner, listArm, listBeneath♯, listRoot, mainList♯}
-use Rattle.twofold.proofs.Over.{deeper-level, top-level}
+use Rattle.twofold_layout.proofs.Over.{deeper-level, top-level}
 use Rattle.primary_search.proofs.Ready.{ReadyNode, Ready, inside-settled, ready}
 
 pub list-none : (xs : List ℕ) (b : Box) (most : ℕ) (ys : List ℕ) → armAt xs rootPlace .weight ≡ 0 → mainList♯ xs b most ys ≡ after 0 ys

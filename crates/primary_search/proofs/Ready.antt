@@ -23,8 +23,8 @@ use Rattle.nodes.specs.Arms.{arms, armAt, recordAt}
 use Rattle.nodes.specs.Holds.{armOf, Holds, CarriesBag}
 use Rattle.nodes.proofs.Held.{held-left, held-right, all-times}
 use Rattle.nodes.proofs.Levels.{held-shallow}
-use Rattle.twofold.specs.Rules.{SlotAuxiliary, SlotMain, AuxiliaryOf, ByRules}
-use Rattle.twofold.specs.TwoFold.{HoldsAuxiliary, TwoFold}
+use Rattle.twofold_layout.specs.Rules.{SlotAuxiliary, SlotMain, AuxiliaryOf, ByRules}
+use Rattle.twofold_layout.specs.TwoFold.{HoldsAuxiliary, TwoFold}
 use Rattle.secondary_search.proofs.Counting.{Settled}
 use Rattle.secondary_search.proofs.Listing.{Marked}
 

@@ -11,11 +11,12 @@ use lib.ListN.{length}
 use borrow.Author.Tests.{eqb-true, eqb-false, leb-false}
 use Rattle.model.specs.Sheet.{Mark, same, belowX}
 use Rattle.model.proofs.Logic.{by-cases, clash}
-use Rattle.table.specs.Layout.{mainPlace, rootPlace, deepest, damaged}
+use Rattle.table.specs.Layout.{mainPlace, rootPlace}
+use Rattle.table.specs.Limits.{deepest, damaged, absent}
 use Rattle.table.specs.Marks.{slotMark}
 use Rattle.nodes.specs.Arms.{armAt, recordAt}
-use Rattle.twofold.specs.Sound.{capacityOf}
-use Rattle.primary_search.specs.Find.{absent, findLeaf, findNode, findBeneath♯, findRoot, find♯}
+use Rattle.table.specs.Header.{capacityOf}
+use Rattle.primary_search.specs.Find.{findLeaf, findNode, findBeneath♯, findRoot, find♯}
 use Rattle.primary_search.specs.Sought.{Leads, leaf, left, right, Finds, Lacks, none, other}
 
 module _ (xs : List ℕ) (m : Mark) where

@@ -6,12 +6,13 @@ use lib.Dec.{eqb}
 use lib.ListN.{getD}
 use Rattle.model.specs.Lists.{if_then_else_}
 use Rattle.model.specs.Sheet.{Box, alongX, holds}
-use Rattle.table.specs.Layout.{capacityPlace, mainPlace, auxiliaryPlace, rootPlace, deepest}
+use Rattle.table.specs.Layout.{capacityPlace, mainPlace, auxiliaryPlace, rootPlace}
+use Rattle.table.specs.Limits.{deepest, lost}
 use Rattle.table.specs.Marks.{slotMark}
 use Rattle.table.specs.Tally.{visited}
 use Rattle.nodes.specs.Arms.{Arm, armAt}
 use Rattle.nodes.specs.Count.{Kind, sideAlong, lowFrom, highFrom, lowEnd, highEnd, openFrom, countTree}
-use Rattle.twofold.specs.Levels.{topLevel, deeper}
+use Rattle.twofold_layout.specs.Levels.{topLevel, deeper}
 use Rattle.secondary_search.specs.Count.{count♯}
 
 -- the arrival at the leaf of a slot, at the inner node of a name, and at a node of that number, inside the side
@@ -25,11 +26,14 @@ unfoldable pub handed♯ : List ℕ → Box → ℕ → ℕ → ℕ → ℕ
 handed♯ xs b base n tally = if eqb (n % 2) 0 then leaf♯ xs b (n / 2) tally else handOver♯ xs b base (n / 2) tally
 
 -- the main tree has its records in the slots, and the auxiliary trees of each depth their own level
-abbrev pub mainKind : List ℕ → ℕ → Box → Kind
+abbrev pub mainKind : List ℕ → ℕ → Box → Kind ℕ
 mainKind xs capacity b = record {
   place = λ base name. mainPlace name;
   deeper = λ base. deeper base capacity;
   take = λ base a tally. handed♯ xs b base (a .node) tally;
+  skip = λ a tally. visited tally 0;
+  visit = λ tally. visited tally 0;
+  lost = lost;
 }
 
 module _ (xs : List ℕ) (capacity : ℕ) (b : Box) where

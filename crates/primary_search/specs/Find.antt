@@ -7,12 +7,10 @@ use lib.Dec.{leb, eqb}
 use lib.ListN.{length, getD}
 use Rattle.model.specs.Lists.{if_then_else_}
 use Rattle.model.specs.Sheet.{Mark, same, belowX}
-use Rattle.table.specs.Layout.{capacityPlace, mainPlace, rootPlace, deepest, damaged}
+use Rattle.table.specs.Layout.{capacityPlace, mainPlace, rootPlace}
+use Rattle.table.specs.Limits.{deepest, damaged, absent}
 use Rattle.table.specs.Marks.{slotMark}
 use Rattle.nodes.specs.Arms.{Arm, armAt, recordAt}
-
-abbrev pub absent : ℕ
-absent = 4294967294
 
 unfoldable pub findLeaf : List ℕ → Mark → ℕ → ℕ
 findLeaf xs m s = if same m (slotMark xs s) then s else absent

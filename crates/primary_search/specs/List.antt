@@ -8,12 +8,13 @@ use lib.ListN.{getD}
 use Rattle.model.specs.Lists.{if_then_else_}
 use Rattle.model.specs.Axis.{cellInside, cellClear}
 use Rattle.model.specs.Sheet.{Mark, Box, alongX, holds}
-use Rattle.table.specs.Layout.{capacityPlace, mainPlace, auxiliaryPlace, rootPlace, listPlace, deepest}
+use Rattle.table.specs.Layout.{capacityPlace, mainPlace, auxiliaryPlace, rootPlace, listPlace}
+use Rattle.table.specs.Limits.{deepest, lost}
 use Rattle.table.specs.Marks.{slotMark, putMark}
 use Rattle.nodes.specs.Arms.{Arm, Record, armAt, recordAt}
-use Rattle.table.specs.Tally.{visited, lost}
+use Rattle.table.specs.Tally.{visited}
 use Rattle.table.specs.After.{After, after}
-use Rattle.twofold.specs.Levels.{topLevel, deeper}
+use Rattle.twofold_layout.specs.Levels.{topLevel, deeper}
 use Rattle.secondary_search.specs.List.{list♯}
 
 unfoldable pub listMark : Box → Mark → ℕ → List ℕ → After ℕ

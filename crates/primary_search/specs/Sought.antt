@@ -9,7 +9,7 @@ use Rattle.model.specs.Sheet.{Mark, same, belowX}
 use Rattle.table.specs.Layout.{mainPlace, rootPlace}
 use Rattle.table.specs.Marks.{slotMark}
 use Rattle.nodes.specs.Arms.{armAt, recordAt}
-use Rattle.twofold.specs.Sound.{capacityOf}
+use Rattle.table.specs.Header.{capacityOf}
 
 module _ (xs : List ℕ) (m : Mark) where
   -- the way from a node leads to the leaf of a slot; every slot on it is one of the table's

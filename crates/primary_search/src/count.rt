@@ -10,10 +10,11 @@ use nodes::primary::Primary;
 use nodes::primary::PrimaryArm;
 use nodes::primary::PrimaryRecord;
 use table::header;
+use table::layout;
 use table::limits;
 use table::slots;
 use table::tally;
-use twofold::levels;
+use twofold_layout::levels;
 
 // The arrival at the leaf of slot s.
 fn leaf(t: &[u32], b: Box, s: u32, tally: u64) -> u64
@@ -63,9 +64,9 @@ fn from_low(t: &[u32], level: u32, capacity: u32, b: Box, start: Primary, from: 
         left -= 1;
         let s = node.slot();
         if PrimaryRecord::is_missing(t, s) {
-            return tally::LOST;
+            return limits::LOST;
         }
-        let p = PrimaryRecord::present(t, s);
+        let p = PrimaryRecord::load(t, s);
         let l = p.left;
         let r = p.right;
         let left_node = l.node;
@@ -84,7 +85,7 @@ fn from_low(t: &[u32], level: u32, capacity: u32, b: Box, start: Primary, from: 
             node = left_node;
         }
     }
-    tally::LOST
+    limits::LOST
 }
 
 // Beneath a node that begins on the side, and in which it ends.
@@ -99,9 +100,9 @@ fn to_high(t: &[u32], level: u32, capacity: u32, b: Box, start: Primary, from: u
         left -= 1;
         let s = node.slot();
         if PrimaryRecord::is_missing(t, s) {
-            return tally::LOST;
+            return limits::LOST;
         }
-        let p = PrimaryRecord::present(t, s);
+        let p = PrimaryRecord::load(t, s);
         let l = p.left;
         let r = p.right;
         let left_node = l.node;
@@ -120,7 +121,7 @@ fn to_high(t: &[u32], level: u32, capacity: u32, b: Box, start: Primary, from: u
             node = right_node;
         }
     }
-    tally::LOST
+    limits::LOST
 }
 
 // The arrival at a tree that ends no later than the side, and at one that begins no earlier.
@@ -163,9 +164,9 @@ fn opened(t: &[u32], level: u32, capacity: u32, b: Box, start: Primary, from: u6
         left -= 1;
         let s = node.slot();
         if PrimaryRecord::is_missing(t, s) {
-            return tally::LOST;
+            return limits::LOST;
         }
-        let p = PrimaryRecord::present(t, s);
+        let p = PrimaryRecord::load(t, s);
         let l = p.left;
         let r = p.right;
         let left_node = l.node;
@@ -184,7 +185,7 @@ fn opened(t: &[u32], level: u32, capacity: u32, b: Box, start: Primary, from: u6
             }
         }
     }
-    tally::LOST
+    limits::LOST
 }
 
 // The arrival at the root, whose level begins at `level`.
@@ -210,7 +211,7 @@ fn search(t: &[u32], level: u32, capacity: u32, b: Box, root: PrimaryArm) -> u64
 pub fn count(t: &[u32], x1: u32, x2: u32, y1: u32, y2: u32) -> u64
     ensures { λ r. ⌜ r ≡ mainCount♯ (now (t .entry)) (box x1 x2 y1 y2) ⌝ }
 {
-    let root = PrimaryArm::at(t, header::ROOT);
+    let root = PrimaryArm::at(t, layout::ROOT);
     if root.weight == 0 {
         return 0;
     }

@@ -3,7 +3,8 @@ ghost use mathlib.Core.Path.{_≡_};
 ghost use Prim.Native.Nat.{_+_, _*_, _≤_};
 ghost use lib.ListN.{length};
 ghost use Rattle.geometry.specs.Values.{markValue};
-ghost use Rattle.table.specs.Layout.{mainPlace, deepest};
+ghost use Rattle.table.specs.Layout.{mainPlace};
+ghost use Rattle.table.specs.Limits.{deepest};
 ghost use Rattle.table.specs.Marks.{slotMark};
 ghost use Rattle.nodes.specs.Arms.{recordAt};
 ghost use Rattle.primary_search.specs.Find.{find♯, findBeneath♯};
@@ -11,10 +12,8 @@ use geometry::Mark;
 use nodes::primary::Primary;
 use nodes::primary::PrimaryArm;
 use table::header;
+use table::layout;
 use table::limits;
-
-// No slot has the mark.
-pub const ABSENT: u32 = 4294967294;
 
 // The mark in slot s, and the left or the right child of the main node of that name, where the whole slot is there.
 fn mark_inside(t: &[u32], s: u32) -> Mark
@@ -63,7 +62,7 @@ fn find_beneath(t: &[u32], capacity: u32, m: Mark, start: Primary) -> u32
             if m.same(here) {
                 return s;
             }
-            return ABSENT;
+            return limits::ABSENT;
         }
         if m.below_x(here) {
             node = left_inside(t, s);
@@ -78,9 +77,9 @@ fn find_beneath(t: &[u32], capacity: u32, m: Mark, start: Primary) -> u32
 pub fn find(t: &[u32], m: Mark) -> u32
     ensures { λ r. ⌜ r ≡ find♯ (now (t .entry)) (markValue m) ⌝ }
 {
-    let root = PrimaryArm::at(t, header::ROOT);
+    let root = PrimaryArm::at(t, layout::ROOT);
     if root.weight == 0 {
-        return ABSENT;
+        return limits::ABSENT;
     }
     let capacity = header::capacity(t);
     if 64 + 16 * (capacity as usize) <= t.len() {

@@ -8,10 +8,11 @@ use geometry::Box;
 use nodes::primary::PrimaryArm;
 use nodes::primary::PrimaryRecord;
 use table::header;
+use table::layout;
 use table::limits;
 use table::slots;
 use table::tally;
-use twofold::levels;
+use twofold_layout::levels;
 
 // The arrival at the leaf of slot s.
 fn list_leaf(t: &[u32], b: Box, s: u32, out: &mut [u32], tally: u64) -> u64
@@ -40,10 +41,10 @@ fn list_beneath(
     ensures { λ r. ⌜ after r (now (out .exit)) ≡ listBeneath♯ fuel (now (t .entry)) capacity (boxValue b) most base (primaryArm a) tally (now (out .entry)) ⌝ }
 {
     if fuel == 0 {
-        return tally::LOST;
+        return limits::LOST;
     }
     if most <= tally::visits(tally) {
-        return tally::LOST;
+        return limits::LOST;
     }
     let node = a.node;
     let s = node.slot();
@@ -70,7 +71,7 @@ fn list_beneath(
 pub fn list(t: &[u32], b: Box, out: &mut [u32], most: u32) -> u64
     ensures { λ r. ⌜ after r (now (out .exit)) ≡ mainList♯ (now (t .entry)) (boxValue b) most (now (out .entry)) ⌝ }
 {
-    let root = PrimaryArm::at(t, header::ROOT);
+    let root = PrimaryArm::at(t, layout::ROOT);
     if root.weight == 0 {
         return 0;
     }

@@ -2,11 +2,10 @@
 use Prim.Native.Nat.{ℕ, zero, suc, _+_, _*_, _/_, _%_, _^_, _≤_, _<_}
 use mathlib.Core.Path.{_≡_, refl, sym, subst, _∙_}
 use mathlib.Core.List.{List, _++_}
-use mathlib.Core.Logic.{inl, inr}
 use mathlib.Core.Option.{some, Option·some-injective}
 use native.Mathlib.Omega.{arith}
 use lib.ListN.{length, length-append}
-use borrow.Author.Tests.{leb-true, ltb-true, eq-eqb, ne-eqb}
+use borrow.Author.Tests.{leb-true, ltb-true, lt-leb, le-ltb, eq-eqb, ne-eqb}
 use Rattle.model.specs.Sizes.{D, W}
 use Rattle.model.specs.Tree.{Tree, leaf, node, weight, depth, marks, least, Balanced}
 use Rattle.model.specs.Sheet.{Mark, alongX, alongY}
@@ -14,23 +13,25 @@ use Rattle.model.proofs.Lists.{sameBag-length}
 use Rattle.model.proofs.Sizes.{D-between, D-rises}
 use Rattle.model.proofs.Depth.{balanced-depth}
 use Rattle.model.proofs.Tree.{weight-marks}
-use Rattle.table.specs.Layout.{mainPlace, runPlace, levelPlace, recordPlace}
+use Rattle.table.specs.Layout.{mainPlace, runPlace, levelPlace, recordPlace, levelEnd}
 use Rattle.nodes.specs.Arms.{arms, recordAt}
 use Rattle.nodes.specs.Holds.{number, armOf, times}
-use Rattle.nodes.proofs.Frames.{frame-run}
-use Rattle.nodes.proofs.Held.{times-node, times-least, held-least, Names, names-left, names-right}
-use Rattle.nodes.proofs.Levels.{levels-apart}
-use Rattle.twofold.specs.Rules.{SlotAuxiliary, SlotMain, AuxiliaryOf, AuxiliariesOf}
-use Rattle.twofold.specs.TwoFold.{HoldsAuxiliary, TwoFold}
-use Rattle.twofold.proofs.Frames.{TwoFrame, twoFrame-refl, twoFrame-trans, twoFrame-weaken, level-frame}
-use Rattle.twofold.proofs.Kept.{clear-none, kept-record, kept-auxiliary, kept-own}
-use Rattle.twofold.proofs.Rules.{rules-auxiliary-times}
-use Rattle.twofold.proofs.Over.{TwoLeaves, two-left, two-right, two-over, deeper-level, two-level}
+use Rattle.nodes.proofs.Unchanged.{unchanged-refl, unchanged-trans}
+use Rattle.nodes.proofs.Frames.{level-there, frame-run}
+use Rattle.nodes.proofs.Held.{times-node, times-least, held-right, held-least, Names, names-left, names-right}
+use Rattle.nodes.proofs.Levels.{most-levels, levels-apart}
+use Rattle.twofold_layout.specs.Rules.{SlotAuxiliary, SlotMain, AuxiliaryOf, AuxiliariesOf}
+use Rattle.twofold_layout.specs.TwoFold.{HoldsAuxiliary, TwoFold}
+use Rattle.twofold_layout.proofs.Frames.{TwoFrame, twoFrame-weaken, level-frame}
+use Rattle.twofold_layout.proofs.Kept.{clear-none, kept-record, kept-auxiliary, kept-own}
+use Rattle.twofold_layout.proofs.Rules.{rules-auxiliary-times}
+use Rattle.twofold_layout.proofs.Over.{TwoLeaves, two-left, two-right, two-over, deeper-level, two-level}
 use Rattle.secondary_build.specs.Copy.{copy♯}
 use Rattle.secondary_build.proofs.Copying.{Copied, copy-holds}
-use Rattle.primary_strike.specs.Lift.{smallDepth, liftRecord, liftNode, lift♯}
-use Rattle.twofold.proofs.Beneath.{deep-two}
-use Rattle.twofold.proofs.Node.{kept-sibling}
+use Rattle.primary_strike.specs.Lift.{liftRecord, liftThere, liftNode, lift♯}
+use Rattle.table.specs.Limits.{siblingDeepest}
+use Rattle.twofold_layout.proofs.Beneath.{deep-two}
+use Rattle.twofold_layout.proofs.Node.{kept-sibling}
 
 -- a balanced tree of at most three slots is at most three deep
 pub small-depth : {I : Type 0} (t : Tree ℕ I) → Balanced t → weight t ≤ 3 → depth t ≤ 3
@@ -84,23 +85,23 @@ module _ (f : ℕ → Mark) (C : ℕ) (small : C ≤ 65536) where
 
     node-record : recordAt ws (mainPlace (least r)) ≡ arms (armOf alongX f l) (armOf alongX f r)
     node-record =
-        kept-record (λ s k. inR s (k .0)) clear-none (b .frame) (least r) own not-right (inl (omega arith))
-        ∙ kept-record (λ s k. inL s (k .0)) clear-none (a .frame) (least r) own not-left (inl (omega arith))
-        ∙ kept-record (λ s k. absurd k) clear-none copied-frame (least r) own (λ k. k) (inl (omega arith))
+        kept-record (λ s k. inR s (k .0)) clear-none (b .frame) (least r) own not-right (omega arith)
+        ∙ kept-record (λ s k. inL s (k .0)) clear-none (a .frame) (least r) own not-left (omega arith)
+        ∙ kept-record (λ s k. absurd k) clear-none copied-frame (least r) own (λ k. k) (omega arith)
         ∙ h .main .records .0
 
     copied-holds : HoldsAuxiliary f C d (least r) ys i
     copied-holds = record {
       tree = h .auxiliaries .0 .tree;
       is = h .auxiliaries .0 .is;
-      arm = kept-auxiliary (λ s k. absurd k) clear-none copied-frame (least r) own (λ k. k) (inl (omega arith)) ∙ h .auxiliaries .0 .arm;
+      arm = kept-auxiliary (λ s k. absurd k) clear-none copied-frame (least r) own (λ k. k) (omega arith) ∙ h .auxiliaries .0 .arm;
       held = c .held;
     }
 
     node-holds : HoldsAuxiliary f C d (least r) ws i
     node-holds =
-        kept-own (λ s k. inR s (k .0)) clear-none (b .frame) d (least r) i (omega arith) inR own not-right (inl (omega arith))
-        (kept-own (λ s k. inL s (k .0)) clear-none (a .frame) d (least r) i (omega arith) inL own not-left (inl (omega arith)) copied-holds)
+        kept-own (λ s k. inR s (k .0)) clear-none (b .frame) d (least r) i (omega arith) inR own not-right (omega arith)
+        (kept-own (λ s k. inL s (k .0)) clear-none (a .frame) d (least r) i (omega arith) inL own not-left (omega arith) copied-holds)
 
     node-lifted : TwoLeaves f C d xs (armOf alongX f (node i l r)) ws (node i l r)
     node-lifted =
@@ -108,22 +109,32 @@ module _ (f : ℕ → Mark) (C : ℕ) (small : C ≤ 65536) where
         record {
           is = refl;
           held = two-over i l r node-record node-holds hl (b .held) apart;
-          frame = twoFrame-trans (twoFrame-weaken (omega arith) (λ s k. absurd k) (λ s k. k) copied-frame)
-              (twoFrame-trans (twoFrame-weaken (omega arith) (names-left i l r) (λ s k. omega (arith, times-node s i l r)) (a .frame))
+          frame = unchanged-trans (twoFrame-weaken (omega arith) (λ s k. absurd k) (λ s k. k) copied-frame)
+              (unchanged-trans (twoFrame-weaken (omega arith) (names-left i l r) (λ s k. omega (arith, times-node s i l r)) (a .frame))
               (twoFrame-weaken (omega arith) (λ s k. names-right i l r apart s (k .0)) (λ s k. omega (arith, times-node s i l r)) (b .frame)));
         }
 
   -- the mirror at a node whose words are right
-  lift-node : (k d : ℕ) (i : SlotAuxiliary) (l r : SlotMain) (xs : List ℕ) (h : TwoFold f C (suc d) xs (node i l r)) → suc d < 40
+  lift-node : (k d : ℕ) (i : SlotAuxiliary) (l r : SlotMain) (xs : List ℕ) (h : TwoFold f C (suc d) xs (node i l r)) → length xs ≡ W C → suc d < D C
       → lift♯ (suc k) C (levelPlace C (suc d)) (levelPlace C d) (number (node i l r)) xs
       ≡ (let rec : (ℕ → List ℕ → List ℕ) = lift♯ k C (levelPlace C (suc (suc d))) (levelPlace C (suc d)) in
       rec (number r) (rec (number l)
-      (copy♯ smallDepth (recordPlace (levelPlace C (suc d))) (recordPlace (levelPlace C d)) (number (h .auxiliaries .0 .tree)) xs)))
-  unfolding lift♯ liftNode liftRecord
-  lift-node k d i l r xs h low =
+      (copy♯ siblingDeepest C (recordPlace (levelPlace C (suc d))) (recordPlace (levelPlace C d)) (number (h .auxiliaries .0 .tree)) xs)))
+  unfolding lift♯ liftNode liftThere liftRecord
+  lift-node k d i l r xs h ln deep =
       let odd : ((2 * least r + 1) % 2 ≡ 0 → ⊥) = omega arith in
       let half : (2 * least r + 1) / 2 ≡ least r = omega arith in
-      rw (ne-eqb ((2 * least r + 1) % 2) 0 odd, half, h .main .records .0, h .auxiliaries .0 .arm, deeper-level C (suc d) small low)
+      let name : least r < C = held-least (held-right (h .main)) in
+      rw (
+        ne-eqb ((2 * least r + 1) % 2) 0 odd,
+        half,
+        lt-leb C (least r) name,
+        le-ltb (length xs) (levelEnd (levelPlace C (suc d)) C) (level-there (levelPlace C (suc d)) C (length xs) (two-level C (suc d) (length xs) small deep ln) (omega arith)),
+        le-ltb (length xs) (levelEnd (levelPlace C d) C) (level-there (levelPlace C d) C (length xs) (two-level C d (length xs) small (omega arith) ln) (omega arith)),
+        h .main .records .0,
+        h .auxiliaries .0 .arm,
+        deeper-level C (suc d) small (omega (arith, most-levels C small)),
+      )
 
   lift-leaf : (k from to s : ℕ) (xs : List ℕ) → lift♯ k C from to (2 * s) xs ≡ xs
   unfolding lift♯ liftNode
@@ -136,7 +147,7 @@ module _ (f : ℕ → Mark) (C : ℕ) (small : C ≤ 65536) where
       → TwoLeaves f C d xs (armOf {I = SlotAuxiliary} alongX f (leaf s)) (lift♯ k C (levelPlace C (suc d)) (levelPlace C d) (2 * s) xs) (leaf s)
   leaf-lifted k d s xs h =
       rw (lift-leaf k (levelPlace C (suc d)) (levelPlace C d) s xs)
-      record { is = refl; held = record { main = h .main; auxiliaries = tt }; frame = twoFrame-refl xs }
+      record { is = refl; held = record { main = h .main; auxiliaries = tt }; frame = unchanged-refl xs }
 
   -- what a lifting by `rec` of trees at depth d + 1 leaves
   abbrev Lifts : ℕ → (ℕ → List ℕ → List ℕ) → SlotMain → Type 0
@@ -147,16 +158,16 @@ module _ (f : ℕ → Mark) (C : ℕ) (small : C ≤ 65536) where
       → Lifts (suc d) rec l → Lifts (suc d) rec r
       → TwoLeaves f C d xs (armOf alongX f (node i l r))
       (rec (number r) (rec (number l)
-      (copy♯ smallDepth (recordPlace (levelPlace C (suc d))) (recordPlace (levelPlace C d)) (number (h .auxiliaries .0 .tree)) xs)))
+      (copy♯ siblingDeepest C (recordPlace (levelPlace C (suc d))) (recordPlace (levelPlace C d)) (number (h .auxiliaries .0 .tree)) xs)))
       (node i l r)
   lift-step rec d i l r xs ln h of w deep lifts-l lifts-r =
       let x : Tree ℕ (List ℕ) = h .auxiliaries .0 .tree in
       let from : (ℕ → ℕ) = recordPlace (levelPlace C (suc d)) in
       let to : (ℕ → ℕ) = recordPlace (levelPlace C d) in
-      let c = copy-holds alongY f from to C smallDepth x xs (two-level C d (length xs) small (omega arith) ln)
-      (λ s q hs hq. inr (levels-apart C d (suc d) q s (omega arith) hq hs)) (h .auxiliaries .0 .held)
+      let c = copy-holds alongY f from to C siblingDeepest x xs (two-level C d (length xs) small (omega arith) ln)
+      (λ s q hs hq k. levels-apart C d (suc d) q s (omega arith) hq hs) (h .auxiliaries .0 .held)
       (auxiliary-depth l r i x (of .0) (h .auxiliaries .0 .is) w) in
-      let ys : List ℕ = copy♯ smallDepth from to (number x) xs in
+      let ys : List ℕ = copy♯ siblingDeepest C from to (number x) xs in
       let fr = frame-run (runPlace C 0) (runPlace C C) (c .frame) in
       let inX : ((s : ℕ) → Names x s → s < C) = λ s z. h .auxiliaries .0 .held .within s (z .0) in
       let a = lifts-l ys (c .frame .long ∙ ln) (deep-two inX fr (suc (suc d)) l (omega arith) (two-left h)) in
@@ -167,24 +178,24 @@ module _ (f : ℕ → Mark) (C : ℕ) (small : C ≤ 65536) where
       let b = lifts-r zs (a .frame .long ∙ c .frame .long ∙ ln) hr in
       node-lifted d i l r xs ys zs (rec (number r) zs) h of c a b
 
-  node-lift : (k d : ℕ) (i : SlotAuxiliary) (l r : SlotMain) → AuxiliariesOf f (node i l r) → weight l + weight r ≤ 3 → suc d ≤ D C → suc d < 40
+  node-lift : (k d : ℕ) (i : SlotAuxiliary) (l r : SlotMain) → AuxiliariesOf f (node i l r) → weight l + weight r ≤ 3 → suc d < D C
       → Lifts (suc d) (lift♯ k C (levelPlace C (suc (suc d))) (levelPlace C (suc d))) l
       → Lifts (suc d) (lift♯ k C (levelPlace C (suc (suc d))) (levelPlace C (suc d))) r
       → Lifts d (lift♯ (suc k) C (levelPlace C (suc d)) (levelPlace C d)) (node i l r)
-  node-lift k d i l r of w deep low a b xs ln h =
-      rw (lift-node k d i l r xs h low) (lift-step (lift♯ k C (levelPlace C (suc (suc d))) (levelPlace C (suc d))) d i l r xs ln h of w deep a b)
+  node-lift k d i l r of w deep a b xs ln h =
+      rw (lift-node k d i l r xs h ln deep) (lift-step (lift♯ k C (levelPlace C (suc (suc d))) (levelPlace C (suc d))) d i l r xs ln h of w (omega arith) a b)
 
-  lift-lifts : (fuel : ℕ) (u : SlotMain) (d : ℕ) → AuxiliariesOf f u → weight u ≤ 3 → depth u ≤ fuel → suc d + depth u ≤ D C → suc d + depth u < 40
+  lift-lifts : (fuel : ℕ) (u : SlotMain) (d : ℕ) → AuxiliariesOf f u → weight u ≤ 3 → depth u ≤ fuel → suc d + depth u ≤ D C
       → Lifts d (lift♯ fuel C (levelPlace C (suc d)) (levelPlace C d)) u
-  lift-lifts zero (leaf s) d of w n deep low = λ xs ln h. leaf-lifted zero d s xs h
-  lift-lifts zero (node i l r) d of w n deep low = absurd (omega arith)
-  lift-lifts (suc k) (leaf s) d of w n deep low = λ xs ln h. leaf-lifted (suc k) d s xs h
-  lift-lifts (suc k) (node i l r) d of w n deep low = λ xs ln h.
-      node-lift k d i l r of w (omega arith) (omega arith)
-      (lift-lifts k l (suc d) (of .1) (omega (arith, w)) (omega arith) (omega arith) (omega arith))
-      (lift-lifts k r (suc d) (of .2) (omega (arith, w)) (omega arith) (omega arith) (omega arith)) xs ln h
+  lift-lifts zero (leaf s) d of w n deep = λ xs ln h. leaf-lifted zero d s xs h
+  lift-lifts zero (node i l r) d of w n deep = absurd (omega arith)
+  lift-lifts (suc k) (leaf s) d of w n deep = λ xs ln h. leaf-lifted (suc k) d s xs h
+  lift-lifts (suc k) (node i l r) d of w n deep = λ xs ln h.
+      node-lift k d i l r of w (omega arith)
+      (lift-lifts k l (suc d) (of .1) (omega (arith, w)) (omega arith) (omega arith))
+      (lift-lifts k r (suc d) (of .2) (omega (arith, w)) (omega arith) (omega arith)) xs ln h
 
   pub lift-holds : (fuel : ℕ) (u : SlotMain) (d : ℕ) (xs : List ℕ) → length xs ≡ W C → TwoFold f C (suc d) xs u → AuxiliariesOf f u
-      → weight u ≤ 3 → depth u ≤ fuel → suc d + depth u ≤ D C → suc d + depth u < 40
+      → weight u ≤ 3 → depth u ≤ fuel → suc d + depth u ≤ D C
       → TwoLeaves f C d xs (armOf alongX f u) (lift♯ fuel C (levelPlace C (suc d)) (levelPlace C d) (number u) xs) u
-  lift-holds fuel u d xs ln h of w n deep low = lift-lifts fuel u d of w n deep low xs ln h
+  lift-holds fuel u d xs ln h of w n deep = lift-lifts fuel u d of w n deep xs ln h

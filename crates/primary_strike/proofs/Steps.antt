@@ -3,65 +3,43 @@
 use Prim.Native.Nat.{ℕ, suc, _+_, _-_, _≤_, _<_}
 use mathlib.Core.Path.{_≡_, refl, sym, ap, subst, _∙_}
 use mathlib.Core.Bool.{true, false}
-use mathlib.Core.List.{List, _++_, append-nil}
+use mathlib.Core.List.{List, _++_}
 use mathlib.Core.Option.{some, Option·some-injective}
 use native.Mathlib.Omega.{arith}
-use lib.ListN.{length, getD, length-append}
-use borrow.Author.Tests.{eq-eqb, ne-eqb}
+use lib.ListN.{length, length-append}
+use borrow.Author.Tests.{ne-eqb}
 use Rattle.model.specs.Axis.{Axis}
 use Rattle.model.specs.Register.{Register}
 use Rattle.model.specs.Sizes.{D, W}
 use Rattle.model.specs.Sheet.{Mark, Box, alongX, alongY}
 use Rattle.model.specs.Slots.{slotAxis}
-use Rattle.model.specs.Tree.{Tree, leaf, node, weight, depth, marks, least, Balanced, build, strikeLeaf, rebalance, rebuilt}
+use Rattle.model.specs.Tree.{Tree, leaf, node, weight, depth, marks, least, Balanced, build, rebalance, rebuilt}
 use Rattle.model.specs.Laws.{Sorted}
 use Rattle.model.proofs.Lists.{sameBag-length}
 use Rattle.model.proofs.Tree.{weight-pos, weight-marks, marks-pos, rebalance-marks}
 use Rattle.model.proofs.Rebalance.{balanced-rebuilt, balanced-rebalance}
-use Rattle.table.specs.Layout.{capacityPlace, mainPlace, auxiliaryPlace, levelPlace, recordPlace}
+use Rattle.table.specs.Layout.{mainPlace, auxiliaryPlace, levelPlace, recordPlace}
 use Rattle.nodes.specs.Arms.{Arm, overArm, armAt, putArm, putRecord}
-use Rattle.nodes.specs.Holds.{armOf, timesIn, times, Held}
+use Rattle.nodes.specs.Holds.{number, armOf, timesIn, times, Held}
 use Rattle.table.specs.After.{After, after}
+use Rattle.nodes.proofs.Unchanged.{unchanged-trans}
 use Rattle.nodes.proofs.Frames.{Region}
-use Rattle.nodes.proofs.Held.{times-node, Names, least-marks, names-left, names-right, Leaves}
-use Rattle.twofold.specs.Rules.{SlotAuxiliary, SlotMain, slotAuxiliary, AuxiliaryOf, AuxiliariesOf, ByRules}
-use Rattle.twofold.specs.TwoFold.{TwoFold}
-use Rattle.twofold.proofs.Frames.{TwoFrame, twoFrame-trans, twoFrame-weaken, level-frame}
-use Rattle.twofold.proofs.Rules.{rules-auxiliary-times, rules-left, rules-right, strike-auxiliaries, strike-rules, slot-count}
-use Rattle.twofold.proofs.Over.{TwoLeaves, two-left, two-right, deeper-level, two-level}
-use Rattle.secondary_update.proofs.Joining.{leaves-capacity}
-use Rattle.secondary_update.proofs.Striking.{Strikes, leftGoes, rightGoes, inLeft, inRight, strikes-times, strikes-in, strikes-weight}
+use Rattle.nodes.proofs.Held.{times-node, held-right, held-least, Names, least-marks, names-left, names-right, Leaves}
+use Rattle.nodes.proofs.Levels.{most-levels}
+use Rattle.twofold_layout.specs.Rules.{SlotAuxiliary, SlotMain, slotAuxiliary, AuxiliaryOf, AuxiliariesOf, ByRules}
+use Rattle.twofold_layout.specs.TwoFold.{TwoFold}
+use Rattle.twofold_layout.proofs.Frames.{TwoFrame, twoFrame-weaken, level-frame}
+use Rattle.twofold_layout.proofs.Rules.{rules-auxiliary-times, rules-left, rules-right, strike-auxiliaries, strike-rules, slot-count}
+use Rattle.twofold_layout.proofs.Over.{TwoLeaves, two-left, two-right, deeper-level, two-level}
+use Rattle.secondary_update.proofs.Striking.{Strikes, inLeft, inRight, strikes-leaf, strikes-marks, strikes-times, strikes-in, strikes-weight}
 use Rattle.secondary_update.proofs.Auxiliaries.{auxiliary-strike}
-use Rattle.primary_build.proofs.Collecting.{without, without-append, without-none}
 use Rattle.primary_build.proofs.Building.{main-rebuild-holds}
 use Rattle.secondary_update.specs.Updates.{Strike, strikeOf}
-use Rattle.primary_strike.specs.Strike.{lifted♯, struckFresh, struckAfresh♯, armOnly, struckAuxiliary♯, mainJoin♯}
-use Rattle.twofold.proofs.Beneath.{deep-two}
-use Rattle.twofold.proofs.Node.{kept-tree, kept-sibling, node-leaves}
+use Rattle.primary_strike.specs.Strike.{lifted♯, struckFresh, struckAfresh♯, armOnly, struckAuxiliary♯, mainStrikeOver}
+use Rattle.twofold_layout.proofs.Beneath.{deep-two}
+use Rattle.twofold_layout.proofs.Kept.{clear-none, kept-tree}
+use Rattle.twofold_layout.proofs.Node.{kept-sibling, node-leaves}
 use Rattle.primary_strike.proofs.Lifting.{small-depth, lift-holds}
-
--- THE MODEL: what the strike makes of a tree is the model's, and has its slots but one in their order
-module _ {I : Type 0} (A : Axis Mark Box) (f : ℕ → Mark) (s : ℕ) (R : Register ℕ Box I) where
-  strikes-leaf : {t t′ : Tree ℕ I} → Strikes A f s R t t′ → strikeLeaf (slotAxis f A) R s t ≡ some t′
-  strikes-leaf (leftGoes e) = rw e
-  strikes-leaf (rightGoes e) = rw e
-  strikes-leaf (inLeft e h) = rw (e, strikes-leaf h)
-  strikes-leaf (inRight e h) = rw (e, strikes-leaf h)
-
-  strikes-marks : {t t′ : Tree ℕ I} → Strikes A f s R t t′ → ((q : ℕ) → times q t ≤ 1) → marks t′ ≡ without s (marks t)
-  strikes-marks (leftGoes {i = i} {r = r} e) once =
-      let z = once s in
-      rw (eq-eqb s s refl) (sym (without-none s (marks r) (omega (arith, (rw (eq-eqb s s refl) at z)))))
-  strikes-marks (rightGoes {i = i} {l = l} e) once =
-      let z = (rw (times-node s i l (leaf s), eq-eqb s s refl) at (once s)) in
-      rw (without-append s (marks l) (marks {I = I} (leaf s)), eq-eqb s s refl, without-none s (marks l) (omega (arith, z)))
-      (sym (append-nil (marks l)))
-  strikes-marks (inLeft {i = i} {l = l} {l′ = l′} {r = r} e h) once =
-      let z : timesIn s (marks r) ≡ 0 = omega (arith, once s, times-node s i l r, strikes-in A f s R h) in
-      rw (without-append s (marks l) (marks r), strikes-marks h (λ q. omega (arith, once q, times-node q i l r)), without-none s (marks r) z)
-  strikes-marks (inRight {i = i} {l = l} {r = r} {r′ = r′} e h) once =
-      let z : timesIn s (marks l) ≡ 0 = omega (arith, once s, times-node s i l r, strikes-in A f s R h) in
-      rw (without-append s (marks l) (marks r), strikes-marks h (λ q. omega (arith, once q, times-node q i l r)), without-none s (marks l) z)
 
 -- what a strike of s from t leaves: t′ mended, the figure, and t′'s least where t's was struck
 pub record LeavesMain (f : ℕ → Mark) (C s d : ℕ) (xs : List ℕ) (t t′ : SlotMain) (p : After Strike) : Type 0 where
@@ -86,11 +64,11 @@ module _ (f : ℕ → Mark) (s : ℕ) where
     struck-rules = strike-rules f s t (slot-count f s t (strikes-in alongX f s (slotAuxiliary f) k)) b t′ (strikes-leaf alongX f s (slotAuxiliary f) k)
 
 -- the mirror of its writing
-pub join-main : (f : ℕ → Mark) (name : ℕ) (l r : Arm) (x : Tree ℕ (List ℕ)) (n first : ℕ) (zs : List ℕ)
-    → mainJoin♯ name l r (armOf alongY f x) n first zs
+pub over-main : (f : ℕ → Mark) (name : ℕ) (l r : Arm) (x : Tree ℕ (List ℕ)) (n first : ℕ) (zs : List ℕ)
+    → mainStrikeOver name l r (armOf alongY f x) n first zs
     ≡ after (strikeOf (overArm name l r) n first) (putArm (putRecord zs (mainPlace name) l r) (auxiliaryPlace name) (armOf alongY f x))
-unfolding mainJoin♯
-join-main f name l r x n first zs = rw (ne-eqb (weight x) 0 (omega (arith, weight-pos x)))
+unfolding mainStrikeOver
+over-main f name l r x n first zs = rw (ne-eqb (weight x) 0 (omega (arith, weight-pos x)))
 
 module _ (f : ℕ → Mark) (C : ℕ) (small : C ≤ 65536) (s : ℕ) where
   -- the model's axis and register over slots
@@ -102,25 +80,25 @@ module _ (f : ℕ → Mark) (C : ℕ) (small : C ≤ 65536) (s : ℕ) where
 
   -- THE LEAF GOES: its sibling, of at most three slots, takes the node's place
   pub goes-holds : (d : ℕ) (u : SlotMain) (xs : List ℕ) (t : SlotMain) (first : ℕ) → length xs ≡ W C → TwoFold f C (suc d) xs u → ByRules f u → weight u ≤ 3
-      → suc d + depth u ≤ D C → suc d + depth u < 40 → (least t ≡ s → first ≡ least u)
+      → suc d + depth u ≤ D C → (least t ≡ s → first ≡ least u)
       → LeavesMain f C s d xs t u (lifted♯ C (levelPlace C d) (armOf alongX f u) first xs)
   unfolding lifted♯ strikeOf
-  goes-holds d u xs t first ln h b w deep low e =
-      let a = lift-holds f C small 3 u d xs ln h (b .auxiliaries) w (small-depth u (b .balanced) w) deep low in
-      rw (deeper-level C d small (omega arith)) record {
+  goes-holds d u xs t first ln h b w deep e =
+      let a = lift-holds f C small 3 u d xs ln h (b .auxiliaries) w (small-depth u (b .balanced) w) deep in
+      rw (deeper-level C d small (omega (arith, most-levels C small))) record {
         leaves = rw (balanced-rebalance X R u (b .balanced)) a;
         figure = sym (balanced-rebuilt u (b .balanced));
         first = e;
       }
 
   -- THE REBUILDING of a node that will not be even
-  pub afresh-holds : (d d₀ : ℕ) (t t′ : SlotMain) (xs : List ℕ) → Strikes alongX f s R t t′ → length xs ≡ W C → getD xs capacityPlace 0 ≡ C → TwoFold f C d xs t
+  pub afresh-holds : (d d₀ : ℕ) (t t′ : SlotMain) (xs : List ℕ) → Strikes alongX f s R t t′ → length xs ≡ W C → TwoFold f C d xs t
       → ByRules f t → depth t < 40 → d + depth (rebalance X R t′) ≤ D C → rebalance X R t′ ≡ build X R d₀ (marks t′) → rebuilt t′ ≡ weight t′
-      → LeavesMain f C s d xs t t′ (struckAfresh♯ (levelPlace C d) s (armOf alongX f t) xs)
+      → LeavesMain f C s d xs t t′ (struckAfresh♯ C s (levelPlace C d) (weight t) (number t) xs)
   unfolding struckAfresh♯ struckFresh strikeOf
-  afresh-holds d d₀ t t′ xs k ln c h b low deep e n =
+  afresh-holds d d₀ t t′ xs k ln h b low deep e n =
       let w : weight t - 1 ≡ weight t′ = omega (arith, strikes-weight alongX f s R k) in
-      let a = main-rebuild-holds f C s (weight t′) d₀ d t (marks t′) xs (h .main) low (b .sorted) c small ln
+      let a = main-rebuild-holds f C s (weight t′) d₀ d t (marks t′) xs (h .main) low (b .sorted) small ln
       (strikes-marks alongX f s R k (h .main .once)) (marks-pos t′) (rw e at deep) (weight-marks t′) in
       rw w record {
         leaves = rw e record { is = a .is; held = a .held; frame = a .frame };
@@ -140,14 +118,14 @@ module _ (f : ℕ → Mark) (C : ℕ) (small : C ≤ 65536) (s : ℕ) where
       )
 
   auxiliary-struck : (d name : ℕ) (o : SlotAuxiliary) (xs : List ℕ) (x : Tree ℕ (List ℕ)) → Region (recordPlace (levelPlace C d)) C (length xs)
-      → getD xs capacityPlace 0 ≡ C → o ≡ some x → armAt xs (auxiliaryPlace name) ≡ armOf alongY f x → Held alongY f (recordPlace (levelPlace C d)) C xs x
+      → name < C → o ≡ some x → armAt xs (auxiliaryPlace name) ≡ armOf alongY f x → Held alongY f (recordPlace (levelPlace C d)) C xs x
       → Sorted (slotAxis f alongY) (marks x) → Balanced x → 1 < weight x → 0 < times s x
-      → StruckAuxiliary f C d (R .strike s o) xs (struckAuxiliary♯ (f s) s (levelPlace C d) name xs)
+      → StruckAuxiliary f C d (R .strike s o) xs (struckAuxiliary♯ C (f s) s (levelPlace C d) name xs)
   unfolding struckAuxiliary♯ armOnly
-  auxiliary-struck d name o xs (leaf q) g c is arm h sorted b many k = absurd (omega arith)
-  auxiliary-struck d name o xs (node i l r) g c is arm h sorted b many k =
-      let a = auxiliary-strike f (levelPlace C d) C xs g c s i l r h b sorted k in
-      rw arm record { tree = a .tree; is = ap (λ o. R .strike s o) is ∙ a .is; leaves = a .leaves }
+  auxiliary-struck d name o xs (leaf q) g inC is arm h sorted b many k = absurd (omega arith)
+  auxiliary-struck d name o xs (node i l r) g inC is arm h sorted b many k =
+      let a = auxiliary-strike f (levelPlace C d) C xs g s name i l r inC arm h b sorted k in
+      record { tree = a .tree; is = ap (λ o. R .strike s o) is ∙ a .is; leaves = a .leaves }
 
   -- THE NODE over m and n after the strikes from its auxiliary tree and from one child
   even-leaves : (d : ℕ) (j : SlotAuxiliary) (m n : SlotMain) (x : Tree ℕ (List ℕ)) (xs ys zs : List ℕ) (a : Arm) {P Q : ℕ → Type 0}
@@ -160,38 +138,35 @@ module _ (f : ℕ → Mark) (C : ℕ) (small : C ≤ 65536) (s : ℕ) where
   even-leaves d j m n x xs ys zs a ln is same h fr inP inQ apart hm hn ofM ofN =
       let inC : ((q : ℕ) → 0 < times q (node j m n) → q < C) = λ q k. h .held .within q (rw (same q) k) in
       let hx : Held alongY f (recordPlace (levelPlace C d)) C zs x =
-      kept-tree (λ q p. inC q (inP q p .0)) fr d x (λ q k. inC q (inQ q k)) (λ e. absurd (omega arith)) (h .held) in
+      kept-tree (λ q p. inC q (inP q p .0)) clear-none fr d x (λ q k. inC q (inQ q k)) (λ e. absurd (omega arith)) (h .held) in
       let w = node-leaves small m n x zs (fr .long ∙ h .frame .long ∙ ln) apart hm hn hx ofM ofN j is in
       record {
         is = w .is;
         held = w .held;
-        frame = twoFrame-trans (level-frame (λ q k. subst (λ n. 0 < n) (same q) (k .0)) (h .frame))
-            (twoFrame-trans (twoFrame-weaken (omega arith) inP inQ fr) (w .frame));
+        frame = unchanged-trans (level-frame (λ q k. subst (λ n. 0 < n) (same q) (k .0)) (h .frame))
+            (unchanged-trans (twoFrame-weaken (omega arith) inP inQ fr) (w .frame));
       }
 
   -- an inner node at depth d, whose words are right
-  module _ (d : ℕ) (i : SlotAuxiliary) (l r : SlotMain) (xs : List ℕ) (ln : length xs ≡ W C) (c : getD xs capacityPlace 0 ≡ C)
+  module _ (d : ℕ) (i : SlotAuxiliary) (l r : SlotMain) (xs : List ℕ) (ln : length xs ≡ W C)
       (h : TwoFold f C d xs (node i l r)) (b : ByRules f (node i l r)) (level : d < D C) where
     abbrev struck : After Arm
-    struck = struckAuxiliary♯ (f s) s (levelPlace C d) (least r) xs
+    struck = struckAuxiliary♯ C (f s) s (levelPlace C d) (least r) xs
 
     pub node-struck : 0 < times s (node i l r) → StruckAuxiliary f C d (R .strike s i) xs struck
     node-struck k =
         let a = h .auxiliaries .0 in
         let v = auxiliary-tree l r i (a .tree) (b .auxiliaries .0) (a .is) in
-        auxiliary-struck d (least r) i xs (a .tree) (two-level C d (length xs) small level ln) c (a .is) (a .arm) (a .held) (v .0) (v .1) (v .2)
+        auxiliary-struck d (least r) i xs (a .tree) (two-level C d (length xs) small level ln) (held-least (held-right (h .main))) (a .is) (a .arm) (a .held) (v .0) (v .1) (v .2)
         (rw (rules-auxiliary-times f (b .auxiliaries .0) (a .is) s) k)
 
     node-apart : (q : ℕ) → times q l + times q r ≤ 1
     node-apart q = omega (arith, h .main .once q, times-node q i l r)
 
-    -- the children stay where the auxiliary tree is struck, and so does the capacity
+    -- the children stay where the auxiliary tree is struck
     module _ (u : StruckAuxiliary f C d (R .strike s i) xs struck) where
       pub struck-long : length (struck .words) ≡ W C
       struck-long = u .leaves .frame .long ∙ ln
-
-      pub struck-capacity : getD (struck .words) capacityPlace 0 ≡ C
-      struck-capacity = leaves-capacity (two-level C d (length xs) small level ln) (u .leaves) c
 
       pub struck-left : TwoFold f C (suc d) (struck .words) l
       struck-left = deep-two (λ q k. u .leaves .held .within q (k .0)) (u .leaves .frame) (suc d) l (omega arith) (two-left h)

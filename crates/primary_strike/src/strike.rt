@@ -1,21 +1,26 @@
 // Strike: down from the root by the order, records written on the way back.
 ghost use mathlib.Core.Path.{_≡_};
+ghost use Prim.Native.Nat.{_+_, _<_, _≤_};
+ghost use lib.ListN.{length};
 ghost use Rattle.geometry.specs.Values.{markValue};
 ghost use Rattle.table.specs.After.{after};
+ghost use Rattle.table.specs.Layout.{slotWidth, slotPlace, runsEnd};
 ghost use Rattle.nodes.specs.Values.{primaryArm, secondaryArm};
 ghost use Rattle.secondary_update.specs.Updates.{strikeOf, noStrike};
-ghost use Rattle.primary_strike.specs.Strike.{lifted♯, struckAfresh♯, struckAuxiliary♯, mainJoin♯, strikeBeneath♯, mainStrike♯};
+ghost use Rattle.primary_strike.specs.Strike.{lifted♯, struckAfresh♯, struckAuxiliary♯, mainStrikeOver, strikeBeneath♯, mainStrike♯};
 ghost use Rattle.primary_strike.specs.Values.{mainStruckValue};
 use crate::lift;
 use geometry::Mark;
+use nodes::arm;
+use nodes::primary::Primary;
 use nodes::primary::PrimaryArm;
 use nodes::primary::PrimaryRecord;
 use nodes::secondary::SecondaryArm;
-use table::header;
+use nodes::weights;
+use table::layout;
 use table::limits;
 use table::slots;
-use table::weights;
-use twofold::levels;
+use twofold_layout::levels;
 
 // What a strike leaves of a main tree: its arm, the weight of the node built afresh, or 0, and its least slot where the struck one was the least. Weight
 // 0 of the arm: the words hold no tree.
@@ -48,34 +53,50 @@ fn damaged() -> Struck
 
 // The sibling of the struck leaf, in the place of their parent, whose level begins at base.
 fn lifted(t: &mut [u32], base: u32, capacity: u32, sibling: PrimaryArm, first: u32) -> Struck
+    requires { ⌜ runsEnd capacity ≤ length (now t) ⌝ }
     ensures { λ u. ⌜ after (mainStruckValue u) (now (t .exit)) ≡ lifted♯ capacity base (primaryArm sibling) first (now (t .entry)) ⌝ }
 {
     let node = sibling.node;
     let from = levels::deeper(base, capacity);
-    lift::lift(t, from, base, capacity, node, lift::SMALL);
+    lift::lift(t, from, base, capacity, node, limits::SIBLING_DEEPEST);
     answer(sibling, 0, first)
 }
 
-// Builds the tree of an arm afresh without the slot s.
-fn strike_afresh(t: &mut [u32], base: u32, a: PrimaryArm, s: u32) -> Struck
-    ensures { λ u. ⌜ after (mainStruckValue u) (now (t .exit)) ≡ struckAfresh♯ base s (primaryArm a) (now (t .entry)) ⌝ }
+// Builds the tree of a node of that weight afresh without the slot s.
+fn strike_afresh(
+    t: &mut [u32],
+    base: u32,
+    capacity: u32,
+    node: Primary,
+    weight: u32,
+    s: u32,
+) -> Struck
+    requires { ⌜ (0 < capacity) × (runsEnd capacity ≤ length (now t)) ⌝ }
+    ensures { λ u. ⌜ after (mainStruckValue u) (now (t .exit)) ≡ struckAfresh♯ capacity s base weight (node .0) (now (t .entry)) ⌝ }
 {
-    let w = weights::fewer(a.weight);
-    let fresh = primary_build::build::rebuild(t, base, a, s, w);
-    answer(fresh.arm, w, fresh.first)
+    let many = weights::fewer(weight);
+    let fresh = primary_build::build::rebuild(t, base, capacity, node, weight, s, many);
+    answer(fresh.arm, many, fresh.first)
 }
 
 // Strikes the mark m of slot s from the auxiliary tree of the main node of that name; gives the arm that is left.
-fn strike_auxiliary(t: &mut [u32], base: u32, name: u32, m: Mark, s: u32) -> SecondaryArm
-    ensures { λ r. ⌜ after (secondaryArm r) (now (t .exit)) ≡ struckAuxiliary♯ (markValue m) s base name (now (t .entry)) ⌝ }
+fn strike_auxiliary(
+    t: &mut [u32],
+    base: u32,
+    capacity: u32,
+    name: u32,
+    m: Mark,
+    s: u32,
+) -> SecondaryArm
+    requires { ⌜ (name < capacity) × (runsEnd capacity ≤ length (now t)) ⌝ }
+    ensures { λ r. ⌜ after (secondaryArm r) (now (t .exit)) ≡ struckAuxiliary♯ capacity (markValue m) s base name (now (t .entry)) ⌝ }
 {
-    let root = PrimaryRecord::auxiliary(t, name);
-    let u = secondary_update::strike::strike(t, base, root, m, s);
+    let u = secondary_update::strike::strike(t, base, capacity, name, m, s);
     u.arm
 }
 
 // Writes the main node of that name over l and r, with its auxiliary tree.
-fn join(
+fn strike_over(
     t: &mut [u32],
     name: u32,
     l: PrimaryArm,
@@ -84,102 +105,96 @@ fn join(
     rebuilt: u32,
     first: u32,
 ) -> Struck
-    ensures { λ u. ⌜ after (mainStruckValue u) (now (t .exit)) ≡ mainJoin♯ name (primaryArm l) (primaryArm r) (secondaryArm auxiliary) rebuilt first (now (t .entry)) ⌝ }
+    requires { ⌜ slotPlace name + slotWidth ≤ length (now t) ⌝ }
+    ensures { λ u. ⌜ after (mainStruckValue u) (now (t .exit)) ≡ mainStrikeOver name (primaryArm l) (primaryArm r) (secondaryArm auxiliary) rebuilt first (now (t .entry)) ⌝ }
 {
     if auxiliary.weight == 0 {
         return damaged();
     }
-    PrimaryRecord::put(t, name, l, r);
-    PrimaryRecord::put_auxiliary(t, name, auxiliary);
+    PrimaryRecord::store(t, name, l, r);
+    PrimaryRecord::store_auxiliary(t, name, auxiliary);
     answer(PrimaryArm::over(name, l, r), rebuilt, first)
 }
 
-// Strikes the mark m of slot s beneath the arm of an inner node, whose level begins at base.
+// Strikes the mark m of slot s beneath an inner node of that number and weight, whose level begins at base. A node of no slot is damage, and so is a child that
+// does not lose one mark.
 fn strike_beneath(
     t: &mut [u32],
     base: u32,
     capacity: u32,
-    a: PrimaryArm,
+    node: Primary,
+    weight: u32,
     m: Mark,
     s: u32,
     fuel: u32,
 ) -> Struck
-    ensures { λ u. ⌜ after (mainStruckValue u) (now (t .exit)) ≡ strikeBeneath♯ fuel capacity (markValue m) s base (primaryArm a) (now (t .entry)) ⌝ }
+    requires { ⌜ runsEnd capacity ≤ length (now t) ⌝ }
+    ensures { λ u. ⌜ after (mainStruckValue u) (now (t .exit)) ≡ strikeBeneath♯ fuel capacity (markValue m) s base weight (node .0) (now (t .entry)) ⌝ }
 {
     if fuel == 0 {
         return damaged();
     }
-    let node = a.node;
     let name = node.slot();
-    let p = PrimaryRecord::at(t, name);
+    if capacity <= name {
+        return damaged();
+    }
+    let p = PrimaryRecord::load(t, name);
     let l = p.left;
     let r = p.right;
-    if weights::disagree(l.weight, r.weight, a.weight) {
+    if weights::disagree(l.weight, r.weight, weight) {
         return damaged();
     }
     let next = levels::deeper(base, capacity);
-    if m.below_x(slots::mark_at(t, name)) {
+    if m.below_x(slots::load(t, name)) {
         if l.weight == 1 {
             return lifted(t, base, capacity, r, name);
         }
-        if weights::balanced(weights::fewer(l.weight), r.weight) {
-            let x = strike_auxiliary(t, base, name, m, s);
-            let u = strike_beneath(t, next, capacity, l, m, s, fuel - 1);
+        let less = weights::fewer(l.weight);
+        if weights::balanced(less, r.weight) {
+            let x = strike_auxiliary(t, base, capacity, name, m, s);
+            let u = strike_beneath(t, next, capacity, l.node, l.weight, m, s, fuel - 1);
             let c = u.arm;
-            if c.weight == 0 {
-                return damaged();
+            if c.weight == less {
+                return strike_over(t, name, c, r, x, u.rebuilt, u.first);
             }
-            return join(t, name, c, r, x, u.rebuilt, u.first);
+            return damaged();
         }
-        return strike_afresh(t, base, a, s);
+        return strike_afresh(t, base, capacity, node, weight, s);
     }
     if r.weight == 1 {
         return lifted(t, base, capacity, l, 0);
     }
-    if weights::balanced(l.weight, weights::fewer(r.weight)) {
-        let x = strike_auxiliary(t, base, name, m, s);
-        let u = strike_beneath(t, next, capacity, r, m, s, fuel - 1);
+    let less = weights::fewer(r.weight);
+    if weights::balanced(l.weight, less) {
+        let x = strike_auxiliary(t, base, capacity, name, m, s);
+        let u = strike_beneath(t, next, capacity, r.node, r.weight, m, s, fuel - 1);
         let c = u.arm;
-        if c.weight == 0 {
-            return damaged();
+        if c.weight == less {
+            let named = arm::renamed(capacity, name, s, u.first);
+            return strike_over(t, named, l, c, x, u.rebuilt, 0);
         }
-        return join(
-            t,
-            secondary_update::strike::renamed(name, s, u.first),
-            l,
-            c,
-            x,
-            u.rebuilt,
-            0,
-        );
+        return damaged();
     }
-    strike_afresh(t, base, a, s)
+    strike_afresh(t, base, capacity, node, weight, s)
 }
 
 // Strikes the mark m of slot s; gives the weight of the main node built afresh, or 0. Striking a lone leaf leaves no tree.
-pub fn strike(t: &mut [u32], m: Mark, s: u32) -> u32
-    ensures { λ r. ⌜ after r (now (t .exit)) ≡ mainStrike♯ (markValue m) s (now (t .entry)) ⌝ }
+pub fn strike(t: &mut [u32], capacity: u32, m: Mark, s: u32) -> u32
+    requires { ⌜ runsEnd capacity ≤ length (now t) ⌝ }
+    ensures { λ r. ⌜ after r (now (t .exit)) ≡ mainStrike♯ capacity (markValue m) s (now (t .entry)) ⌝ }
 {
-    let root = PrimaryArm::at(t, header::ROOT);
+    let root = PrimaryArm::load(t, layout::ROOT);
     let node = root.node;
     if node.is_leaf() {
-        PrimaryArm::put(t, header::ROOT, PrimaryArm::none());
+        PrimaryArm::store(t, layout::ROOT, PrimaryArm::none());
         return 0;
     }
-    let capacity = header::capacity(t);
-    let u = strike_beneath(
-        t,
-        levels::top(capacity),
-        capacity,
-        root,
-        m,
-        s,
-        limits::DEEPEST,
-    );
+    let top = levels::top(capacity);
+    let u = strike_beneath(t, top, capacity, node, root.weight, m, s, limits::DEEPEST);
     let a = u.arm;
     if a.weight == 0 {
         return limits::DAMAGED;
     }
-    PrimaryArm::put(t, header::ROOT, a);
+    PrimaryArm::store(t, layout::ROOT, a);
     u.rebuilt
 }

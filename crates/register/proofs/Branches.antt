@@ -6,7 +6,7 @@ use mathlib.Core.List.{List, _++_}
 use lib.ListN.{take, drop, length, getD}
 use native.Mathlib.Nat.{sub-zero}
 use borrow.Author.Tests.{eq-eqb, ne-eqb}
-use Rattle.model.specs.Sheet.{Mark, Box}
+use Rattle.model.specs.Sheet.{Mark, Box, belowX}
 use Rattle.model.specs.Refusals.{Outcome, accepted, refused, openTable, enterMark, enterBox}
 use Rattle.model.specs.History.{Answer, refusal, updated, whichList}
 use Rattle.table.specs.After.{After, after}
@@ -14,8 +14,8 @@ use Rattle.table.specs.Layout.{livePlace}
 use Rattle.primary_search.specs.Count.{mainCount♯}
 use Rattle.primary_search.specs.List.{mainList♯}
 use Rattle.sorting.specs.Sorted.{SortedIn}
-use Rattle.primary.specs.Empty.{empty♯}
-use Rattle.checking.specs.Header.{ownWords, ownVisits}
+use Rattle.whole_table.specs.Empty.{empty♯}
+use Rattle.table.specs.Header.{ownWords, ownVisits}
 use Rattle.register.specs.Mirrors.{within, onAccepted, open♯, onTable, updateOwn, orNumber, countOwn♯, count♯}
 use Rattle.register.specs.Mirrors.{ListedOwn, ListsOwn, lost, short, lists, Lists, notTable, crossed, onOwn}
 use Rattle.register.specs.Answers.{ListFigures, listRefused}
@@ -64,7 +64,7 @@ module _ (xs : List ℕ) (c : ℕ) where
 pub list-marks : (b : Box) (most k : ℕ) (xs first second first′ second′ x : List ℕ) (tally visits which : ℕ)
     → after tally x ≡ mainList♯ xs b (most + 2 * k) (take (3 * k - 0) first) → length x ≡ length (take (3 * k - 0) first)
     → visits ≡ tally % 4294967296 → which ≡ whichList k
-    → SortedIn k (x ++ drop (3 * k - 0) first) second first′ second′
+    → SortedIn belowX k (x ++ drop (3 * k - 0) first) second first′ second′
     → ListedOwn b most k xs first second first′ second′ (record { number = 0; k = k; visits = visits; which = which })
 list-marks b most k xs first second first′ second′ x tally visits which listed many ev ew sorted =
     let h = (rw (sub-zero (3 * k)) at listed) in

@@ -19,20 +19,21 @@ use Rattle.model.specs.History as history
 use Rattle.model.proofs.Logic.{by-cases, or-true-right}
 use Rattle.model.proofs.Lists.{countIf-length, filterBy-length}
 use Rattle.table.specs.Marks.{listMarks, markWords}
-use Rattle.table.specs.Tally.{mostVisits, pack}
+use Rattle.table.specs.Tally.{pack}
+use Rattle.table.specs.Limits.{mostVisits}
 use Rattle.table.specs.After.{after}
 use Rattle.table.proofs.Lists.{markWords-length}
 use Rattle.sizes.specs.Sizes.{visitsWithin}
-use Rattle.twofold.specs.Sound.{capacityOf, liveOf, Holding, SoundTable}
+use Rattle.twofold_layout.specs.Sound.{Holding, SoundTable}
+use Rattle.table.specs.Header.{capacityOf, liveOf, ownWords, ownVisits}
 use Rattle.primary_search.specs.Count.{mainCount♯}
 use Rattle.primary_search.specs.List.{mainList♯}
-use Rattle.primary.proofs.Searching as searching
-use Rattle.primary.proofs.Searching.{holding-within, holding-small, count-most, list-within, list-most, list-sound}
+use Rattle.whole_table.proofs.Searching as searching
+use Rattle.whole_table.proofs.Searching.{holding-within, holding-small, count-most, list-within, list-most, list-sound}
 use Rattle.sorting.specs.Sorted.{sortedWords, SortedIn}
 use Rattle.sorting.proofs.Words.{listMarks-length, listMarks-words, words-listMarks}
 use Rattle.sorting.proofs.Sorting.{listMarks-take}
-use Rattle.checking.specs.Header.{ownWords, ownVisits}
-use Rattle.checking.proofs.Own.{own-visits-few}
+use Rattle.table.proofs.Own.{own-visits-few}
 use Rattle.register.specs.Answers.{ListFigures, listRefused, inList, marksIn, listGiven}
 use Rattle.register.specs.Performs.{lends, early, own, CountsTo, Later, unsound, LeavesLists, stateOf, Performs}
 use Rattle.register.specs.Performs as performs
@@ -91,7 +92,7 @@ module _ (b : Box) (limit k : ℕ) (xs first second first′ second′ : List �
   filled-room : 3 * k ≤ length filled
   filled-room = by-cases (eqb (whichList k) 1) (λ t. rw t (omega arith)) (λ f. rw f (omega arith))
 
-  module _ (long : length met ≡ length part) (done : SortedIn k (met ++ drop (3 * k) first) second first′ second′) where
+  module _ (long : length met ≡ length part) (done : SortedIn belowX k (met ++ drop (3 * k) first) second first′ second′) where
     -- on any table
     listed-leaves : LeavesLists (listedIn (whichList (length (listed-marks k visits first′ second′))) (listed-marks k visits first′ second′) visits)
         (lends xs first second) (lends xs first′ second′)

@@ -17,9 +17,10 @@ use Rattle.model.specs.History.{openFor, Answer, refusal, updated}
 use Rattle.model.proofs.Logic.{by-cases, clash}
 use Rattle.table.specs.Layout.{usedPlace, runPlace}
 use Rattle.table.specs.After.{After, after}
-use Rattle.twofold.specs.Sound.{capacityOf, Holding}
-use Rattle.primary.specs.Empty.{empty♯}
-use Rattle.primary.proofs.Emptying.{empty-length, empty-capacity, empty-other, empty-holding}
+use Rattle.twofold_layout.specs.Sound.{Holding}
+use Rattle.table.specs.Header.{capacityOf}
+use Rattle.whole_table.specs.Empty.{empty♯}
+use Rattle.whole_table.proofs.Emptying.{empty-length, empty-capacity, empty-other, empty-holding}
 use Rattle.register.specs.Performs.{alone, early, own, opens, written, Performs}
 use Rattle.register.specs.Mirrors.{within, onAccepted, open♯}
 use Rattle.register.proofs.Own.{W-header, held-capacity, held-own}

@@ -14,11 +14,12 @@ use Rattle.model.specs.Sheet.{Main}
 use Rattle.model.specs.Refusals.{accepted, refused, openTable}
 use Rattle.model.proofs.Logic.{by-cases}
 use Rattle.model.proofs.Sizes.{capacity-small}
-use Rattle.table.specs.Layout.{openPlace, capacityPlace, livePlace}
-use Rattle.twofold.specs.Sound.{capacityOf, liveOf, Holding, SoundTable}
-use Rattle.twofold.proofs.Sound.{live-within}
-use Rattle.checking.specs.Header.{notTable, ownWords}
-use Rattle.checking.proofs.Own.{own-table, table-own}
+use Rattle.table.specs.Layout.{openPlace, capacityPlace, livePlace, runsEnd}
+use Rattle.nodes.proofs.Levels.{W-words}
+use Rattle.twofold_layout.specs.Sound.{Holding, SoundTable}
+use Rattle.table.specs.Header.{capacityOf, liveOf, notTable, ownWords}
+use Rattle.twofold_layout.proofs.Sound.{live-within}
+use Rattle.table.proofs.Own.{own-table, table-own}
 use Rattle.register.specs.Performs.{own}
 
 pub own-fits : (xs : List ℕ) → ownWords xs ≤ length xs
@@ -94,6 +95,13 @@ part-live xs n is some =
     let k = own-table xs table in
     let e : take (n - 0) xs ≡ own xs = ap (λ n. take n xs) (sub-zero n ∙ is) ∙ own-is xs table in
     rw e (omega (arith, own-live xs, k .2, capacity-small (capacityOf xs) (k .1)))
+
+-- and the slots and runs of the capacity are there
+pub part-room : (xs : List ℕ) (n : ℕ) → n ≡ ownWords xs → (n ≡ 0 → ⊥) → runsEnd (capacityOf (take (n - 0) xs)) ≤ length (take (n - 0) xs)
+part-room xs n is some =
+    let table : (ownWords xs ≡ 0 → ⊥) = λ z. some (is ∙ z) in
+    let e : take (n - 0) xs ≡ own xs = ap (λ n. take n xs) (sub-zero n ∙ is) ∙ own-is xs table in
+    rw (e, own-capacity xs, own-length xs table) (omega (arith, W-words (capacityOf xs)))
 
 -- words that hold a tree, with others behind them: the own words are those that hold it
 module _ {ws : List ℕ} {T : Main} (h : Holding ws T) (rest : List ℕ) where

@@ -17,11 +17,11 @@ use Rattle.model.specs.History.{Call, State, Answer, refusal, updated, answer, 
 use Rattle.model.proofs.Logic.{by-cases}
 use Rattle.table.specs.Layout.{openPlace}
 use Rattle.table.specs.After.{After, after}
-use Rattle.twofold.specs.Sound.{capacityOf, liveOf, Holding, SoundTable}
-use Rattle.twofold.specs.Gaps.{Unused}
-use Rattle.primary.proofs.Gaps.{unused-within}
-use Rattle.checking.specs.Header.{notTable, ownWords}
-use Rattle.checking.proofs.Own.{own-table}
+use Rattle.twofold_layout.specs.Sound.{Holding, SoundTable}
+use Rattle.table.specs.Header.{capacityOf, liveOf, notTable, ownWords}
+use Rattle.twofold_layout.specs.Gaps.{Unused}
+use Rattle.whole_table.proofs.Gaps.{unused-within}
+use Rattle.table.proofs.Own.{own-table}
 use Rattle.register.specs.Performs.{Lent, lends, alone, LengthsOf, numberOf, early, own, opensTable, updates, Later, unsound}
 use Rattle.register.specs.Performs.{reach, Leaves, unchanged, written, closed}
 use Rattle.register.specs.Performs.{LeavesLists, Starts, stateOf, Follows, Spares, Performs}

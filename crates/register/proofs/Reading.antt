@@ -16,17 +16,17 @@ use Rattle.model.specs.Refusals.{enterBox}
 use Rattle.model.specs.History.{Call, State, Answer, refusal, updated, counted, answer, next}
 use Rattle.model.specs.History as history
 use Rattle.model.proofs.Logic.{by-cases}
-use Rattle.table.specs.Layout.{damaged}
+use Rattle.table.specs.Limits.{damaged}
 use Rattle.model.proofs.Lists.{countIf-length}
 use Rattle.sizes.specs.Sizes.{visitsWithin}
 use Rattle.table.specs.Tally.{pack}
-use Rattle.twofold.specs.Sound.{capacityOf, liveOf, Holding, SoundTable}
+use Rattle.twofold_layout.specs.Sound.{Holding, SoundTable}
+use Rattle.table.specs.Header.{capacityOf, liveOf, notTable, ownWords, ownVisits}
 use Rattle.primary_search.specs.Count.{mainCount♯}
-use Rattle.primary.proofs.Searching.{holding-within, holding-small, count-sound, count-plain, count-within, count-most}
+use Rattle.whole_table.proofs.Searching.{holding-within, holding-small, count-sound, count-plain, count-within, count-most}
 use Rattle.checking.specs.Verdict.{Verdict}
 use Rattle.checking.specs.Verdict as verdict
-use Rattle.checking.specs.Header.{notTable, ownWords, ownVisits}
-use Rattle.checking.proofs.Own.{own-most}
+use Rattle.table.proofs.Own.{own-most}
 use Rattle.register.specs.Performs.{alone, early, own, CountsTo, Later, counts, sound, unsound, stateOf, Performs}
 use Rattle.register.specs.Mirrors.{orNumber, tallied, countOwn♯, count♯}
 use Rattle.register.proofs.Own.{own-none, own-some, own-capacity, own-live, own-is, sound-table}

@@ -5,7 +5,8 @@ use mathlib.Core.List.{List}
 use Rattle.model.specs.Tree.{marksOf}
 use Rattle.model.specs.History.{Call, State, Answer, answer, next}
 use Rattle.model.proofs.History.{Right, next-right}
-use Rattle.twofold.specs.Sound.{capacityOf, Holding}
+use Rattle.twofold_layout.specs.Sound.{Holding}
+use Rattle.table.specs.Header.{capacityOf}
 use Rattle.register.specs.Performs.{Lent, own, stateOf, Performs}
 
 pub record Stands (xs : List ℕ) (s : State) : Type 0 where

@@ -17,19 +17,20 @@ use Rattle.model.specs.History as history
 use Rattle.model.proofs.Logic.{by-cases}
 use Rattle.model.proofs.Sizes.{capacity-small}
 use Rattle.model.proofs.TwoFold.{main-insert-marks, main-strike-marks}
-use Rattle.table.specs.Layout.{openPlace, damaged}
+use Rattle.table.specs.Layout.{openPlace}
+use Rattle.table.specs.Limits.{damaged, absent}
 use Rattle.table.specs.After.{After, after}
-use Rattle.twofold.specs.Sound.{capacityOf, liveOf, Holding, SoundTable}
-use Rattle.primary_search.specs.Find.{absent, find♯}
+use Rattle.twofold_layout.specs.Sound.{Holding, SoundTable}
+use Rattle.table.specs.Header.{capacityOf, liveOf, notTable, ownWords}
+use Rattle.primary_search.specs.Find.{find♯}
 use Rattle.primary_search.proofs.Sought.{find-finds, find-lacks}
-use Rattle.primary.specs.Insert.{tableInsert♯}
-use Rattle.primary.specs.Strike.{tableStrike♯}
-use Rattle.primary.proofs.Searching.{holding-agrees, holding-small, find-sound, find-missing}
-use Rattle.primary.proofs.Inserting.{insert-sound, insert-capacity}
-use Rattle.primary.proofs.Striking.{strike-sound, strike-capacity}
-use Rattle.primary.proofs.Gaps.{insert-unused, strike-unused}
-use Rattle.checking.specs.Header.{notTable, ownWords}
-use Rattle.checking.proofs.Own.{own-table}
+use Rattle.whole_table.specs.Insert.{tableInsert♯}
+use Rattle.whole_table.specs.Strike.{tableStrike♯}
+use Rattle.whole_table.proofs.Searching.{holding-agrees, holding-small, find-sound, find-missing}
+use Rattle.whole_table.proofs.Inserting.{insert-sound, insert-capacity}
+use Rattle.whole_table.proofs.Striking.{strike-sound, strike-capacity}
+use Rattle.whole_table.proofs.Gaps.{insert-unused, strike-unused}
+use Rattle.table.proofs.Own.{own-table}
 use Rattle.register.specs.Performs.{alone, early, own, Later, present, full, inserts, missing, strikes, stateOf, Performs}
 use Rattle.register.specs.Mirrors.{closed♯, settled♯, settledAfter, insertFound, insertOwn♯, insert♯, strikeFound, strikeOwn♯, strike♯}
 use Rattle.register.proofs.Own.{own-capacity, own-live}

@@ -7,18 +7,19 @@ use mathlib.Core.List.{List, _++_}
 use lib.Dec.{ltb, eqb}
 use lib.ListN.{length, getD, set, take, drop}
 use Rattle.model.specs.Lists.{if_then_else_}
-use Rattle.model.specs.Sheet.{Mark, Box}
+use Rattle.model.specs.Sheet.{Mark, Box, belowX}
 use Rattle.model.specs.Refusals.{Outcome, accepted, refused, openTable, enterMark, enterBox}
 use Rattle.model.specs.History.{Answer, refusal, updated, counted, whichList}
-use Rattle.table.specs.Layout.{openPlace, capacityPlace, livePlace, damaged}
+use Rattle.table.specs.Layout.{openPlace, capacityPlace, livePlace}
+use Rattle.table.specs.Limits.{damaged, absent}
 use Rattle.table.specs.After.{After, after}
-use Rattle.primary_search.specs.Find.{absent, find♯}
+use Rattle.primary_search.specs.Find.{find♯}
 use Rattle.primary_search.specs.Count.{mainCount♯}
 use Rattle.primary_search.specs.List.{mainList♯}
-use Rattle.primary.specs.Empty.{empty♯}
-use Rattle.primary.specs.Insert.{tableInsert♯}
-use Rattle.primary.specs.Strike.{tableStrike♯}
-use Rattle.checking.specs.Header.{ownWords, ownVisits}
+use Rattle.whole_table.specs.Empty.{empty♯}
+use Rattle.whole_table.specs.Insert.{tableInsert♯}
+use Rattle.whole_table.specs.Strike.{tableStrike♯}
+use Rattle.table.specs.Header.{ownWords, ownVisits}
 use Rattle.sorting.specs.Sorted.{SortedIn}
 use Rattle.register.specs.Answers.{ListFigures, listRefused}
 
@@ -102,7 +103,7 @@ module _ (b : Box) (most : ℕ) where
       visits = mainList♯ xs b (most + 2 * k) (take (3 * k) first) .out % 4294967296;
       which = whichList k;
     }
-    pub sorted : SortedIn k (mainList♯ xs b (most + 2 * k) (take (3 * k) first) .words ++ drop (3 * k) first) second first′ second′
+    pub sorted : SortedIn belowX k (mainList♯ xs b (most + 2 * k) (take (3 * k) first) .words ++ drop (3 * k) first) second first′ second′
 
   pub data ListsOwn (xs first second : List ℕ) : List ℕ → List ℕ → ListFigures → Type 0 where
     lost : (most < mainCount♯ xs b % 4294967296) ⊎ (getD xs livePlace 0 < mainCount♯ xs b / 4294967296)

@@ -17,11 +17,11 @@ use Rattle.table.specs.Layout.{openPlace, usedPlace, runPlace}
 use Rattle.sizes.specs.Sizes.{visitsWithin}
 use Rattle.table.specs.Marks.{markWords}
 use Rattle.table.specs.Tally.{pack}
-use Rattle.twofold.specs.Sound.{capacityOf, liveOf, Holding, SoundTable}
-use Rattle.twofold.specs.Gaps.{Unused}
+use Rattle.twofold_layout.specs.Sound.{Holding, SoundTable}
+use Rattle.table.specs.Header.{capacityOf, liveOf, notTable}
+use Rattle.twofold_layout.specs.Gaps.{Unused}
 use Rattle.primary_search.specs.Sought.{Finds, Lacks}
 use Rattle.primary_search.specs.Count.{mainCount♯}
-use Rattle.checking.specs.Header.{notTable}
 use Rattle.register.specs.Answers.{inList}
 
 -- the words that a call is lent: a table and, for a list, two lists

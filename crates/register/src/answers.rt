@@ -1,7 +1,8 @@
-// What the calls answer, and document 01's number and figures for each case (specs/Answers), 0 for every figure that a case does not give.
+// What the calls answer, and document 01's number and figures for each case (specs/Answers).
 ghost use mathlib.Core.Path.{_≡_};
+ghost use Rattle.model.specs.History.{refusal};
 ghost use Rattle.register.specs.Answers.{openAnswer, updateAnswer, countAnswer, listFigures, checkAnswer};
-ghost use Rattle.register.specs.Answers.{tableGiven, updateGiven, countGiven};
+ghost use Rattle.register.specs.Answers.{tableGiven, updateGiven, countGiven, listRefused};
 
 pub enum Opening {
     Opened,
@@ -44,10 +45,18 @@ pub enum Check {
     Unsound,
 }
 
-// The figures of each kind of answer, beside its number.
+// The figures of each kind of answer, beside its number. `refused` gives 0 for every figure, but for the marks with number 10.
 pub struct TableFigures {
     pub number: u32,
     pub live: u32,
+}
+
+impl TableFigures {
+    fn refused(number: u32) -> TableFigures
+        ensures { λ r. ⌜ tableGiven (r .number) (r .live) ≡ refusal number 0 ⌝ }
+    {
+        TableFigures { number, live: 0 }
+    }
 }
 
 pub struct UpdateFigures {
@@ -56,10 +65,34 @@ pub struct UpdateFigures {
     pub rebuilt: u32,
 }
 
+impl UpdateFigures {
+    fn refused(number: u32) -> UpdateFigures
+        ensures { λ r. ⌜ updateGiven (r .number) (r .live) (r .rebuilt) ≡ refusal number 0 ⌝ }
+    {
+        UpdateFigures {
+            number,
+            live: 0,
+            rebuilt: 0,
+        }
+    }
+}
+
 pub struct CountFigures {
     pub number: u32,
     pub marks: u32,
     pub visits: u32,
+}
+
+impl CountFigures {
+    fn refused(number: u32) -> CountFigures
+        ensures { λ r. ⌜ countGiven (r .number) (r .marks) (r .visits) ≡ refusal number 0 ⌝ }
+    {
+        CountFigures {
+            number,
+            marks: 0,
+            visits: 0,
+        }
+    }
 }
 
 pub struct ListFigures {
@@ -69,14 +102,27 @@ pub struct ListFigures {
     pub which: u32,
 }
 
+impl ListFigures {
+    fn refused(number: u32, marks: u32) -> ListFigures
+        ensures { λ r. ⌜ record { number = r .number; k = r .marks; visits = r .visits; which = r .which } ≡ listRefused number marks ⌝ }
+    {
+        ListFigures {
+            number,
+            marks,
+            visits: 0,
+            which: 0,
+        }
+    }
+}
+
 impl Opening {
     pub fn figures(self) -> TableFigures
         ensures { λ r. ⌜ tableGiven (r .number) (r .live) ≡ openAnswer self ⌝ }
     {
         match self {
             Opening::Opened => TableFigures { number: 0, live: 0 },
-            Opening::Capacity => TableFigures { number: 1, live: 0 },
-            Opening::Short => TableFigures { number: 2, live: 0 },
+            Opening::Capacity => TableFigures::refused(1),
+            Opening::Short => TableFigures::refused(2),
         }
     }
 }
@@ -91,36 +137,12 @@ impl Update {
                 live,
                 rebuilt,
             },
-            Update::NotTable => UpdateFigures {
-                number: 3,
-                live: 0,
-                rebuilt: 0,
-            },
-            Update::Outside => UpdateFigures {
-                number: 5,
-                live: 0,
-                rebuilt: 0,
-            },
-            Update::Present => UpdateFigures {
-                number: 8,
-                live: 0,
-                rebuilt: 0,
-            },
-            Update::Full => UpdateFigures {
-                number: 7,
-                live: 0,
-                rebuilt: 0,
-            },
-            Update::Absent => UpdateFigures {
-                number: 9,
-                live: 0,
-                rebuilt: 0,
-            },
-            Update::Unsound => UpdateFigures {
-                number: 4,
-                live: 0,
-                rebuilt: 0,
-            },
+            Update::NotTable => UpdateFigures::refused(3),
+            Update::Outside => UpdateFigures::refused(5),
+            Update::Present => UpdateFigures::refused(8),
+            Update::Full => UpdateFigures::refused(7),
+            Update::Absent => UpdateFigures::refused(9),
+            Update::Unsound => UpdateFigures::refused(4),
         }
     }
 }
@@ -135,21 +157,9 @@ impl Count {
                 marks,
                 visits,
             },
-            Count::NotTable => CountFigures {
-                number: 3,
-                marks: 0,
-                visits: 0,
-            },
-            Count::Crossed => CountFigures {
-                number: 6,
-                marks: 0,
-                visits: 0,
-            },
-            Count::Unsound => CountFigures {
-                number: 4,
-                marks: 0,
-                visits: 0,
-            },
+            Count::NotTable => CountFigures::refused(3),
+            Count::Crossed => CountFigures::refused(6),
+            Count::Unsound => CountFigures::refused(4),
         }
     }
 }
@@ -165,30 +175,10 @@ impl Listing {
                 visits,
                 which,
             },
-            Listing::NotTable => ListFigures {
-                number: 3,
-                marks: 0,
-                visits: 0,
-                which: 0,
-            },
-            Listing::Crossed => ListFigures {
-                number: 6,
-                marks: 0,
-                visits: 0,
-                which: 0,
-            },
-            Listing::Short(marks) => ListFigures {
-                number: 10,
-                marks,
-                visits: 0,
-                which: 0,
-            },
-            Listing::Unsound => ListFigures {
-                number: 4,
-                marks: 0,
-                visits: 0,
-                which: 0,
-            },
+            Listing::NotTable => ListFigures::refused(3, 0),
+            Listing::Crossed => ListFigures::refused(6, 0),
+            Listing::Short(marks) => ListFigures::refused(10, marks),
+            Listing::Unsound => ListFigures::refused(4, 0),
         }
     }
 }
@@ -199,8 +189,8 @@ impl Check {
     {
         match self {
             Check::Sound(live) => TableFigures { number: 0, live },
-            Check::NotTable => TableFigures { number: 3, live: 0 },
-            Check::Unsound => TableFigures { number: 4, live: 0 },
+            Check::NotTable => TableFigures::refused(3),
+            Check::Unsound => TableFigures::refused(4),
         }
     }
 }

@@ -4,7 +4,7 @@ ghost use Rattle.model.specs.History as history;
 ghost use Rattle.register.specs.Answers.{checkAnswer};
 ghost use Rattle.register.specs.Performs.{Performs, alone};
 use crate::answers::Check;
-use checking::header;
+use table::header;
 use table::limits;
 
 pub fn check(table: &[u32]) -> Check

@@ -7,9 +7,9 @@ ghost use Rattle.register.specs.Answers.{countAnswer};
 ghost use Rattle.register.specs.Mirrors.{countOwn♯, count♯};
 ghost use Rattle.register.specs.Performs.{Performs, alone};
 use crate::answers::Count;
-use checking::header;
 use geometry::Box;
 use geometry::NewBox;
+use table::header;
 use table::tally;
 
 // Counts in the table's own words, in which no sound tree takes more visits than `most`. A figure that no sound table can have is damage.

@@ -1,35 +1,40 @@
 // Insert: enters a mark.
 ghost use mathlib.Core.Path.{_≡_};
+ghost use Prim.Native.Nat.{_≤_};
+ghost use lib.ListN.{length};
 ghost use Rattle.model.specs.Sheet.{mark};
 ghost use Rattle.model.specs.History as history;
 ghost use Rattle.geometry.specs.Values.{markValue};
 ghost use Rattle.table.specs.After.{after};
+ghost use Rattle.table.specs.Header.{capacityOf};
+ghost use Rattle.table.specs.Layout.{runsEnd};
 ghost use Rattle.register.specs.Answers.{updateAnswer};
 ghost use Rattle.register.specs.Mirrors.{insertOwn♯, insert♯};
 ghost use Rattle.register.specs.Performs.{Performs, alone};
 use crate::answers::Update;
 use crate::update;
-use checking::header;
 use geometry::Mark;
 use geometry::NewMark;
 use primary_search::find;
+use table::header;
 use table::limits;
 
 // Inserts into the table's own words.
 fn insert_own(t: &mut [u32], m: Mark) -> Update
+    requires { ⌜ runsEnd (capacityOf (now t)) ≤ length (now t) ⌝ }
     ensures { λ r. ⌜ after (updateAnswer r) (now (t .exit)) ≡ insertOwn♯ (markValue m) (now (t .entry)) ⌝ }
 {
     let s = find::find(t, m);
     if s == limits::DAMAGED {
         return update::close(t);
     }
-    if s == find::ABSENT {
-        let live = table::header::live(t);
-        let capacity = table::header::capacity(t);
+    if s == limits::ABSENT {
+        let live = header::live(t);
+        let capacity = header::capacity(t);
         if live == capacity {
             return Update::Full;
         }
-        let rebuilt = primary::insert::insert(t, m);
+        let rebuilt = whole_table::insert::insert(t, capacity, m);
         return update::settle(t, rebuilt);
     }
     Update::Present

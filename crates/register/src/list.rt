@@ -6,14 +6,16 @@ ghost use Rattle.model.specs.Sheet.{box};
 ghost use Rattle.model.specs.History as history;
 ghost use Rattle.geometry.specs.Values.{boxValue};
 ghost use Rattle.table.specs.Layout.{livePlace};
-ghost use Rattle.table.specs.Tally.{mostVisits};
+ghost use Rattle.table.specs.Limits.{mostVisits};
 ghost use Rattle.register.specs.Answers.{listAnswer, listFigures};
 ghost use Rattle.register.specs.Mirrors.{ListedOwn, ListsOwn, Lists};
 ghost use Rattle.register.specs.Performs.{Performs, lends};
 use crate::answers::Listing;
-use checking::header;
 use geometry::Box;
 use geometry::NewBox;
+use sorting::order::Order;
+use sorting::sort;
+use table::header;
 use table::tally;
 
 // Lists the k marks that a count has found. Nothing is refused from here on: a refusal changes no lent word.
@@ -31,7 +33,7 @@ fn list_marks(
 {
     let words = 3 * (k as usize);
     let tally = primary_search::list::list(t, b, &mut first[0..words], most + 2 * k);
-    let which = sorting::sort::sort_lists(first, second, k);
+    let which = sort::sort_lists(Order::AlongX, first, second, k);
     Listing::Listed(k, tally::visits(tally), which)
 }
 

@@ -7,7 +7,7 @@ ghost use Rattle.register.specs.Answers.{openAnswer};
 ghost use Rattle.register.specs.Mirrors.{open♯};
 ghost use Rattle.register.specs.Performs.{Performs, alone};
 use crate::answers::Opening;
-use primary::empty;
+use whole_table::empty;
 
 fn opened(table: &mut [u32], capacity: u32) -> Opening
     ensures { λ r. ⌜ after (openAnswer r) (now (table .exit)) ≡ open♯ capacity (now (table .entry)) ⌝ }

@@ -1,32 +1,38 @@
 // Strike: takes a mark out.
 ghost use mathlib.Core.Path.{_≡_};
+ghost use Prim.Native.Nat.{_≤_};
+ghost use lib.ListN.{length};
 ghost use Rattle.model.specs.Sheet.{mark};
 ghost use Rattle.model.specs.History as history;
 ghost use Rattle.geometry.specs.Values.{markValue};
 ghost use Rattle.table.specs.After.{after};
+ghost use Rattle.table.specs.Header.{capacityOf};
+ghost use Rattle.table.specs.Layout.{runsEnd};
 ghost use Rattle.register.specs.Answers.{updateAnswer};
 ghost use Rattle.register.specs.Mirrors.{strikeOwn♯, strike♯};
 ghost use Rattle.register.specs.Performs.{Performs, alone};
 use crate::answers::Update;
 use crate::update;
-use checking::header;
 use geometry::Mark;
 use geometry::NewMark;
 use primary_search::find;
+use table::header;
 use table::limits;
 
 // Strikes from the table's own words.
 fn strike_own(t: &mut [u32], m: Mark) -> Update
+    requires { ⌜ runsEnd (capacityOf (now t)) ≤ length (now t) ⌝ }
     ensures { λ r. ⌜ after (updateAnswer r) (now (t .exit)) ≡ strikeOwn♯ (markValue m) (now (t .entry)) ⌝ }
 {
     let s = find::find(t, m);
     if s == limits::DAMAGED {
         return update::close(t);
     }
-    if s == find::ABSENT {
+    if s == limits::ABSENT {
         return Update::Absent;
     }
-    let rebuilt = primary::strike::strike(t, m, s);
+    let capacity = header::capacity(t);
+    let rebuilt = whole_table::strike::strike(t, capacity, m, s);
     update::settle(t, rebuilt)
 }
 

@@ -3,9 +3,8 @@
 use Prim.Native.Nat.{ℕ, _+_, _-_, _/_, _≤_, _<_}
 use mathlib.Core.Path.{_≡_, refl, sym, ap, subst, _∙_}
 use mathlib.Core.List.{List, [], _∷_, _++_}
-use mathlib.Core.Logic.{_⊎_, inl, inr}
+use mathlib.Core.Logic.{inl}
 use native.Mathlib.Omega.{arith}
-use borrow.Author.Tests.{le-ltb, eq-eqb}
 use lib.Dec.{eqb}
 use lib.ListN.{length, getD, length-append, List·getD-append}
 use lib.Seq.{sets, getD-append-add}
@@ -15,16 +14,20 @@ use Rattle.model.specs.Tree.{Tree, leaf, node, weight, depth, marks, least, bui
 use Rattle.model.specs.Sheet.{Mark, Box}
 use Rattle.model.specs.Slots.{slotAxis}
 use Rattle.model.proofs.Lists.{countIf-append}
-use Rattle.model.proofs.Tree.{weight-marks, marks-pos, marks-least, build-induction}
-use Rattle.table.specs.Layout.{capacityPlace, runPlace}
+use Rattle.model.proofs.Tree.{weight-marks, marks-pos, marks-least, build-marks, build-induction}
+use Rattle.table.specs.Layout.{runPlace}
 use Rattle.table.specs.Marks.{slotMark}
+use Rattle.table.specs.Runs.{runSlot}
+use Rattle.table.proofs.RunSlots.{runSlot-is}
 use Rattle.nodes.specs.Arms.{Arm}
-use Rattle.nodes.specs.Holds.{armOf, timesIn, times, Held}
+use Rattle.nodes.specs.Holds.{number, armOf, timesIn, times, Held}
 use Rattle.table.specs.After.{After}
-use Rattle.nodes.proofs.Frames.{sets-at, Region, Frame, frame-refl, frame-trans, frame-weaken, frame-run, frame-mark, putRecord-frame}
+use Rattle.nodes.proofs.Unchanged.{apart-sym, unchanged-refl, unchanged-trans}
+use Rattle.nodes.proofs.Frames.{sets-at, Region, Frame, frame-weaken, frame-run, frame-mark, putRecord-frame}
 use Rattle.nodes.proofs.Held.{times-least, held-weight, held-least, held-frame, leafArm-of, overArm-of, node-held, Names, names-left, names-right, names-own, Leaves}
-use Rattle.secondary_build.specs.Build.{runLeaf, buildOver, buildNode, build♯, build♯-leaf, build♯-node, rebuildRun, rebuildWithin, rebuild♯}
-use Rattle.secondary_build.proofs.Collecting.{run-frame, collect-holds}
+use Rattle.nodes.proofs.Without.{without, without-short, without-times}
+use Rattle.nodes.proofs.Collecting.{run-frame, gather-holds}
+use Rattle.secondary_build.specs.Build.{runLeaf, buildOver, buildNode, build♯, build♯-leaf, build♯-node, rebuildRun, rebuild♯}
 
 -- in a table of capacity C, run A reads a list from place i on
 abbrev pub Reads : ℕ → ℕ → List ℕ → List ℕ → Type 0
@@ -69,25 +72,45 @@ module _ {f : ℕ → Mark} {C i : ℕ} (l r : List ℕ) {xs : List ℕ} (u : Ru
 -- a change of records leaves a run
 pub run-kept : {f : ℕ → Mark} {place : ℕ → ℕ} {C i n : ℕ} {l xs ys : List ℕ} {P : ℕ → Type 0} → Region place C n → Frame place P 0 0 xs ys
     → ((s : ℕ) → P s → s < C) → Run f C i l xs → Run f C i l ys
-run-kept {C = C} {i = i} g a inC u = record {
+run-kept {place = place} {C = C} {i = i} g a inC u = record {
   reads = λ j h.
       let k = runPlace C (i + j) in
-      a .same k (λ s p. off k (omega arith) (omega (arith, u .fits)) (g .offRun s (inC s p))) (inr (omega arith)) ∙ u .reads j h;
+      a .same k (λ s p l. omega (arith, apart-sym (runPlace C 0) C (place s) 8 (g .offRun s (inC s p)) (omega (arith, u .fits))), omega arith) ∙ u .reads j h;
   fits = u .fits;
   once = u .once;
   within = u .within;
   marked = λ s k. frame-mark g (omega arith) (omega arith) (frame-run (runPlace C 0) (runPlace C C) a) inC s (u .within s k) ∙ u .marked s k;
 }
-  where
-    off : (k : ℕ) {v : ℕ} → runPlace C 0 ≤ k → k < runPlace C C → (runPlace C C ≤ v) ⊎ (v + 8 ≤ runPlace C 0) → (k < v) ⊎ (v + 8 ≤ k)
-    off k lo hi (inl h) = inl (omega arith)
-    off k lo hi (inr h) = inr (omega arith)
 
 -- the slot at the beginning of a tree's run is its least
-pub run-least : {I : Type 0} {f : ℕ → Mark} {C i : ℕ} {xs : List ℕ} (t : Tree ℕ I) → Run f C i (marks t) xs → getD xs (runPlace C i) 0 ≡ least t
+pub run-least : {I : Type 0} {f : ℕ → Mark} {C i : ℕ} {xs : List ℕ} (t : Tree ℕ I) → Run f C i (marks t) xs → runSlot C i xs ≡ least t
 run-least {C = C} {i = i} {xs = xs} t u =
     let e : i + 0 ≡ i = omega arith in
-    (rw e at (u .reads 0 (marks-pos t))) ∙ ap (λ l. getD l 0 0) (marks-least t .1)
+    runSlot-is C i (least t) xs ((rw e at (u .reads 0 (marks-pos t))) ∙ ap (λ l. getD l 0 0) (marks-least t .1)) (u .within (least t) (times-least t))
+
+-- the slots of a tree but one, gathered in run A
+module _ {I : Type 0} (A : Axis Mark Box) (f : ℕ → Mark) (place : ℕ → ℕ) (C but : ℕ) (t : Tree ℕ I) (xs : List ℕ) (g : Region place C (length xs))
+    (h : Held A f place C xs t) where
+  rest-fits : length (without but (marks t)) ≤ C
+  rest-fits = omega (arith, without-short but (marks t), weight-marks t, held-weight h)
+
+  pub gathered-frame : Frame place (λ s. ⊥) (runPlace C 0) (runPlace C C) xs (sets xs (runPlace C 0) (without but (marks t)))
+  gathered-frame = run-frame place C 0 (without but (marks t)) xs (omega (arith, rest-fits))
+
+  pub gathered-run : Run f C 0 (without but (marks t)) (sets xs (runPlace C 0) (without but (marks t)))
+  gathered-run =
+      let rest : List ℕ = without but (marks t) in
+      let hy = held-frame A f g (omega arith) (omega arith) gathered-frame (λ s p. absurd p) t (λ s p. absurd p) h in
+      let stands : ((s : ℕ) → 0 < timesIn s rest → 0 < times s t) = λ s k. omega (arith, without-times but s (marks t)) in
+      record {
+        reads = λ j l.
+            let e : runPlace C (0 + j) ≡ runPlace C 0 + j = omega arith in
+            rw e (sets-at rest xs (runPlace C 0) j l (omega (arith, g .runRoom, rest-fits)));
+        fits = omega (arith, rest-fits);
+        once = λ s. omega (arith, without-times but s (marks t), h .once s);
+        within = λ s k. h .within s (stands s k);
+        marked = λ s k. hy .marked s (stands s k);
+      }
 
 module _ {I : Type 0} (A : Axis Mark Box) (f : ℕ → Mark) (place : ℕ → ℕ) (C : ℕ) where
   leaf-built : (s i : ℕ) (xs : List ℕ) → Region place C (length xs) → Run f C i (s ∷ []) xs → Built {I = I} A f place C xs (build♯ A 1 place C i 1 xs) (leaf s)
@@ -98,13 +121,13 @@ module _ {I : Type 0} (A : Axis Mark Box) (f : ℕ → Mark) (place : ℕ → �
       record {
         is = leafArm-of s (A .at (f s)) (omega (arith, u .within s here, g .small));
         held = record { once = u .once; within = u .within; marked = u .marked; records = tt };
-        frame = frame-refl xs;
+        frame = unchanged-refl xs;
       }
 
   -- two trees built, one after the other, and the record of the node over them written
   over-built : (j : I) (l r : Tree ℕ I) (i : ℕ) (xs : List ℕ) (p q : After Arm) → Region place C (length xs) → Run f C i (marks l ++ marks r) xs
       → Built A f place C xs p l → Built A f place C (p .words) q r
-      → Built A f place C xs (buildOver place (getD (q .words) (runPlace C (i + length (marks l))) 0) (p .out) (q .out) (q .words)) (node j l r)
+      → Built A f place C xs (buildOver place (runSlot C (i + length (marks l)) (q .words)) (p .out) (q .out) (q .words)) (node j l r)
   unfolding buildOver
   over-built j l r i xs p q g u bp bq =
       let ys : List ℕ = q .words in
@@ -123,10 +146,10 @@ module _ {I : Type 0} (A : Axis Mark Box) (f : ℕ → Mark) (place : ℕ → �
         is = overArm-of A f j l r (omega (arith, name, g .small)) (omega (arith, held-weight h, g .small));
         held = h;
         frame =
-            frame-trans (frame-weaken (names-left j l r) (bp .frame))
-            (frame-trans (frame-weaken (λ s k. names-right j l r apart s (k .0)) (bq .frame))
+            unchanged-trans (frame-weaken (names-left j l r) (bp .frame))
+            (unchanged-trans (frame-weaken (λ s k. names-right j l r apart s (k .0)) (bq .frame))
             (frame-weaken (names-own j l r apart)
-            (putRecord-frame place ys (least r) (armOf A f l) (armOf A f r) (gy .room (least r) name))));
+            (putRecord-frame place ys (least r) (armOf A f l) (armOf A f r))));
       }
 
   module _ (R : Register ℕ Box I) where
@@ -149,35 +172,33 @@ module _ {I : Type 0} (A : Axis Mark Box) (f : ℕ → Mark) (place : ℕ → �
         (br (i + length (marks l)) _ (rw (first .frame .long) g) (run-kept g (first .frame) (λ s k. first .held .within s (k .0)) (run-right (marks l) (marks r) u′)))))
         l p i xs g u
 
-    pub rebuild-holds : (d : ℕ) (t : Tree ℕ I) (xs : List ℕ) → Region place C (length xs) → getD xs capacityPlace 0 ≡ C → Held A f place C xs t → depth t < 40
-        → Leaves A f place C xs (rebuild♯ A place (armOf A f t) xs .out) (rebuild♯ A place (armOf A f t) xs .words) (build (slotAxis f A) R d (marks t))
-    unfolding rebuild♯ rebuildWithin rebuildRun
-    rebuild-holds d t xs g c h dp =
-        let w = weight-marks t in
-        let k = held-weight h in
-        let ys : List ℕ = sets xs (runPlace C 0) (marks t) in
-        let a = run-frame place C 0 (marks t) xs (omega arith) in
-        let gy : Region place C (length ys) = rw (a .long) g in
-        let hy : Held A f place C ys t = held-frame A f g (omega arith) (omega arith) a (λ s p. absurd p) t (λ s p. absurd p) h in
-        let u : Run f C 0 (marks t) ys = record {
-          reads = λ j l.
-              let e : runPlace C (0 + j) ≡ runPlace C 0 + j = omega arith in
-              rw e (sets-at (marks t) xs (runPlace C 0) j l (omega (arith, g .runRoom)));
-          fits = omega arith;
-          once = hy .once;
-          within = hy .within;
-          marked = hy .marked;
-        } in
-        let b = build-holds d 0 (marks t) ys gy u (marks-pos t) in
-        rw (
-          c,
-          le-ltb C (weight t) k,
-          collect-holds A f place C (weight t) 40 t 0 xs g h dp (omega arith) (omega arith),
-          eq-eqb (0 + weight t) (weight t) (omega arith),
-          w,
+    rest-rebuilt : (but d : ℕ) (t : Tree ℕ I) (xs : List ℕ) → Region place C (length xs) → Held A f place C xs t → depth t < 40
+        → 0 < length (without but (marks t))
+        → let p = rebuild♯ A place C but (length (without but (marks t))) (weight t) (number t) xs in
+        Leaves A f place C xs (p .out) (p .words) (build (slotAxis f A) R d (without but (marks t)))
+        × (runSlot C 0 (p .words) ≡ least (build (slotAxis f A) R d (without but (marks t))))
+    unfolding rebuild♯ rebuildRun
+    rest-rebuilt but d t xs g h deep some =
+        let rest : List ℕ = without but (marks t) in
+        let ys : List ℕ = sets xs (runPlace C 0) rest in
+        let v : Tree ℕ I = build (slotAxis f A) R d rest in
+        let a = gathered-frame A f place C but t xs g h in
+        let u : Run f C 0 rest ys = gathered-run A f place C but t xs g h in
+        let b = build-holds d 0 rest ys (rw (a .long) g) u some in
+        let e : marks v ≡ rest = build-marks (slotAxis f A) R d rest some in
+        let kept : Run f C 0 (marks v) _ = run-kept g (b .frame) (λ s k. b .held .within s (k .0)) (subst (λ l. Run f C 0 l ys) (sym e) u) in
+        rw (gather-holds A f place C but t xs g h deep some) (
+          record {
+            is = b .is;
+            held = b .held;
+            frame = unchanged-trans (frame-weaken (λ s p. absurd p) a) (frame-run (runPlace C 0) (runPlace C C) (b .frame));
+          },
+          run-least v kept,
         )
-        record {
-          is = b .is;
-          held = b .held;
-          frame = frame-trans (frame-weaken (λ s p. absurd p) a) (frame-run (runPlace C 0) (runPlace C C) (b .frame));
-        }
+
+    -- THE REBUILDING of a tree without one slot: the model's tree of its other slots, which stand in run A
+    pub rebuild-holds : (but k d : ℕ) (t : Tree ℕ I) (l xs : List ℕ) → Region place C (length xs) → Held A f place C xs t → depth t < 40
+        → l ≡ without but (marks t) → 0 < length l → k ≡ length l
+        → let p = rebuild♯ A place C but k (weight t) (number t) xs in
+        Leaves A f place C xs (p .out) (p .words) (build (slotAxis f A) R d l) × (runSlot C 0 (p .words) ≡ least (build (slotAxis f A) R d l))
+    rebuild-holds but k d t l xs g h deep e some n = rw (n, e) (rest-rebuilt but d t xs g h deep (rw e at some))

@@ -1,27 +1,27 @@
 -- The mirrors of building and rebuilding, along any axis. Assumes nothing.
 use Prim.Native.Nat.{ℕ, zero, suc, _+_, _-_, _/_, _≤_, _<_}
 use mathlib.Core.Path.{_≡_, refl, _∙_}
+use mathlib.Core.Bool.{Bool}
 use mathlib.Core.List.{List}
 use native.Mathlib.Omega.{arith}
-use lib.Dec.{leb, ltb, eqb}
-use lib.ListN.{getD}
+use lib.Dec.{leb}
 use borrow.Author.Tests.{leb-false, le-leb, lt-leb}
 use Rattle.model.specs.Lists.{if_then_else_}
 use Rattle.model.specs.Axis.{Axis}
 use Rattle.model.specs.Sheet.{Mark, Box}
 use Rattle.model.proofs.Logic.{by-cases}
-use Rattle.table.specs.Layout.{capacityPlace, runPlace, deepest}
 use Rattle.table.specs.Marks.{slotMark}
+use Rattle.table.specs.Runs.{runSlot}
 use Rattle.nodes.specs.Arms.{Arm, noArm, leafArm, overArm, putRecord}
 use Rattle.table.specs.After.{After, after}
-use Rattle.secondary_build.specs.Collect.{collect♯}
+use Rattle.nodes.specs.Collect.{gather♯}
 
 -- from a place of run A, a number of slots, and the words
 abbrev pub Building : Type 0
 Building = ℕ → ℕ → List ℕ → After Arm
 
 unfoldable pub runLeaf : Axis Mark Box → ℕ → ℕ → List ℕ → Arm
-runLeaf A capacity i xs = leafArm (getD xs (runPlace capacity i) 0) (A .at (slotMark xs (getD xs (runPlace capacity i) 0)))
+runLeaf A capacity i xs = leafArm (runSlot capacity i xs) (A .at (slotMark xs (runSlot capacity i xs)))
 
 unfoldable pub buildOver : (ℕ → ℕ) → ℕ → Arm → Arm → List ℕ → After Arm
 buildOver place name l r xs = after (overArm name l r) (putRecord xs (place name) l r)
@@ -30,7 +30,7 @@ unfoldable pub buildNode : Building → (ℕ → ℕ) → ℕ → Building
 buildNode rec place capacity i n xs =
     let p : After Arm = rec i (n / 2) xs in
     let q : After Arm = rec (i + n / 2) (n - n / 2) (p .words) in
-    buildOver place (getD (q .words) (runPlace capacity (i + n / 2)) 0) (p .out) (q .out) (q .words)
+    buildOver place (runSlot capacity (i + n / 2) (q .words)) (p .out) (q .out) (q .words)
 
 unfoldable pub buildStep : Axis Mark Box → Building → (ℕ → ℕ) → ℕ → Building
 buildStep A rec place capacity i n xs = if leb n 1 then after (runLeaf A capacity i xs) xs else buildNode rec place capacity i n xs
@@ -89,13 +89,9 @@ build♯-node (suc n) h A place capacity i xs =
     (λ i′ n′ xs′ k. build♯-bound A n n′ place capacity i′ n′ xs′ (omega arith) (omega arith))
     ∙ buildStep-node A (λ i′ n′ xs′. build♯ A n′ place capacity i′ n′ xs′) place capacity i (suc n) xs h
 
-unfoldable pub rebuildRun : Axis Mark Box → (ℕ → ℕ) → ℕ → ℕ → After ℕ → After Arm
-rebuildRun A place capacity w run = if eqb (run .out) w then build♯ A w place capacity 0 w (run .words) else after noArm (run .words)
+unfoldable pub rebuildRun : Axis Mark Box → (ℕ → ℕ) → ℕ → ℕ → After Bool → After Arm
+rebuildRun A place capacity k run = if run .out then build♯ A k place capacity 0 k (run .words) else after noArm (run .words)
 
-unfoldable pub rebuildWithin : Axis Mark Box → (ℕ → ℕ) → ℕ → Arm → List ℕ → After Arm
-rebuildWithin A place capacity a xs =
-    if ltb capacity (a .weight) then after noArm xs
-    else rebuildRun A place capacity (a .weight) (collect♯ deepest place capacity (a .weight) (a .node) 0 xs)
-
-unfoldable pub rebuild♯ : Axis Mark Box → (ℕ → ℕ) → Arm → List ℕ → After Arm
-rebuild♯ A place a xs = rebuildWithin A place (getD xs capacityPlace 0) a xs
+-- the tree of weight w and number n built afresh without the slot `but`, which leaves it k slots
+unfoldable pub rebuild♯ : Axis Mark Box → (ℕ → ℕ) → ℕ → ℕ → ℕ → ℕ → ℕ → List ℕ → After Arm
+rebuild♯ A place capacity but k w n xs = rebuildRun A place capacity k (gather♯ place capacity but k w n xs)

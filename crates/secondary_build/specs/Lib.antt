@@ -1,5 +1,4 @@
 -- Mirrors: what the functions of src/ give, on lists and numbers, step by step. They take the places of a tree's records and its axis as parameters.
 -- What they mean is in proofs/.
-pub mod Collect
 pub mod Build
 pub mod Copy

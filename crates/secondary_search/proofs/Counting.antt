@@ -9,20 +9,21 @@ use Rattle.model.specs.Lists.{if_then_else_}
 use Rattle.model.specs.Axis.{onSide, cellClear}
 use Rattle.model.specs.Register.{Found, innermost}
 use Rattle.model.specs.Tree.{Tree, leaf, node, weight, depth, marks}
-use Rattle.model.specs.Search.{search}
+use Rattle.model.specs.Search.{inside, clear, search}
 use Rattle.model.specs.Sheet.{Mark, Box, box, fromY1, toY2, sheet, holds, alongX, alongY}
 use Rattle.model.specs.Slots.{slotSpace, slotAxis}
 use Rattle.model.specs.Laws.{AxisLaws, Straight, All, cons, Sorted}
 use Rattle.model.proofs.Logic.{by-cases}
 use Rattle.model.proofs.Lists.{all-left, all-right}
+use Rattle.model.proofs.Sorted.{sorted-left, sorted-right}
 use Rattle.model.proofs.Orders.{alongY-laws}
 use Rattle.model.proofs.Slots.{slotAxis-laws}
 use Rattle.table.specs.Layout.{recordPlace}
-use Rattle.table.specs.Tally.{mostVisits, pack}
-use Rattle.table.proofs.Tallies.{visited-pack}
+use Rattle.table.specs.Tally.{visited}
 use Rattle.nodes.specs.Arms.{Arm}
 use Rattle.nodes.specs.Holds.{armOf, Holds}
-use Rattle.nodes.proofs.Searching.{Taken, Laid, count-adds}
+use Rattle.nodes.specs.Count.{added}
+use Rattle.nodes.proofs.Searching.{clear-past, found-clear, Arrives, Laid, count-adds, added-both, added-swap, added-arrive}
 use Rattle.secondary_search.specs.Count.{auxiliaryKind, count♯}
 
 -- each node carries as many slots as stand beneath it
@@ -60,31 +61,39 @@ module _ (f : ℕ → Mark) (b : Box) where
   ordered = slotAxis-laws f sheet alongY alongY-laws
 
   module _ (base : ℕ) (xs : List ℕ) where
-    abbrev TakenHere : Tree ℕ (List ℕ) → Type 0
-    TakenHere = Taken auxiliaryKind alongY b f (innermost (slotSpace f sheet)) ordered xs base
+    abbrev ArrivesHere : Tree ℕ (List ℕ) → Type 0
+    ArrivesHere = Arrives auxiliaryKind alongY b f (innermost (slotSpace f sheet)) ordered xs added added-both added-swap added-arrive base
 
     abbrev LaidHere : Tree ℕ (List ℕ) → Type 0
-    LaidHere = Laid auxiliaryKind alongY b f (innermost (slotSpace f sheet)) ordered xs base
+    LaidHere = Laid auxiliaryKind alongY b f (innermost (slotSpace f sheet)) ordered xs added added-both added-swap added-arrive base
 
     -- inside the side all that a tree weighs is found
-    taken : (t : Tree ℕ (List ℕ)) → Carries t → Settled t → TakenHere t
-    taken (leaf s) c (cons e g) t k v room = rw (settled-holds (f s) e, t) (visited-pack k v 1 (omega arith) (omega arith))
-    taken (node i l r) c g t k v room =
-        let hk = (rw t at room .0) in
-        let hv = (rw t at room .1) in
-        rw t (visited-pack k v (weight l + weight r) (omega (arith, c .0)) (omega arith) ∙ omega (arith, c .0))
+    taken : (t : Tree ℕ (List ℕ)) → Carries t → Settled t → inside (slotAxis f alongY) b t ≡ true → (tally : ℕ)
+        → visited tally (weight t) ≡ added (searched t) tally
+    unfolding visited added
+    taken (leaf s) c (cons e g) t tally = rw (settled-holds (f s) e, t)
+    taken (node i l r) c g t tally = rw t (omega (arith, c .0))
 
-    laid : (t : Tree ℕ (List ℕ)) → Holds alongY f (recordPlace base) xs t → Carries t → Settled t → LaidHere t
-    laid (leaf s) h c g = taken (leaf s) c g
-    laid (node i l r) h c g = (
+    -- clear of it nothing is
+    skipped : (t : Tree ℕ (List ℕ)) → Sorted (slotAxis f alongY) (marks t) → clear (slotAxis f alongY) b t ≡ true → (tally : ℕ)
+        → visited tally 0 ≡ added (searched t) tally
+    unfolding visited added
+    skipped t s e tally =
+        rw (found-clear auxiliaryKind alongY b f (innermost (slotSpace f sheet)) ordered xs added added-both added-swap added-arrive t s e)
+
+    arrives : (t : Tree ℕ (List ℕ)) → Carries t → Settled t → Sorted (slotAxis f alongY) (marks t) → ArrivesHere t
+    arrives t c g s = record { takes = taken t c g; skips = skipped t s; passes = λ e. skipped t s (clear-past (slotAxis f alongY) b t e) }
+
+    laid : (t : Tree ℕ (List ℕ)) → Holds alongY f (recordPlace base) xs t → Carries t → Settled t → Sorted (slotAxis f alongY) (marks t) → LaidHere t
+    laid (leaf s) h c g o = arrives (leaf s) c g o
+    laid (node i l r) h c g o = (
       h .0,
-      taken (node i l r) c g,
-      laid l (h .1) (c .1) (all-left (marks l) (marks r) g),
-      laid r (h .2) (c .2) (all-right (marks l) (marks r) g),
+      arrives (node i l r) c g o,
+      laid l (h .1) (c .1) (all-left (marks l) (marks r) g) (sorted-left (marks l) (marks r) o),
+      laid r (h .2) (c .2) (all-right (marks l) (marks r) g) (sorted-right (marks l) (marks r) o),
     )
 
     pub count-holds : Straight alongY b → (t : Tree ℕ (List ℕ)) → Holds alongY f (recordPlace base) xs t → Carries t → Settled t
-        → Sorted (slotAxis f alongY) (marks t) → depth t ≤ 38 → (k v : ℕ) → v + searched t .visits ≤ mostVisits → k + searched t .found ≤ 65536
-        → count♯ xs b base (armOf alongY f t) (pack k v) ≡ pack (k + searched t .found) (v + searched t .visits)
-    count-holds fine t h c g s d k v hv hk =
-        count-adds auxiliaryKind alongY b f (innermost (slotSpace f sheet)) ordered xs fine base t (omega arith) (laid t h c g) s k v (hk, hv)
+        → Sorted (slotAxis f alongY) (marks t) → depth t ≤ 38 → (tally : ℕ) → count♯ xs b base (armOf alongY f t) tally ≡ added (searched t) tally
+    count-holds fine t h c g s d =
+        count-adds auxiliaryKind alongY b f (innermost (slotSpace f sheet)) ordered xs added added-both added-swap added-arrive fine base t (omega arith) (laid t h c g s) s

@@ -25,7 +25,8 @@ use Rattle.table.specs.Layout.{recordPlace, listPlace}
 use Rattle.table.specs.Marks.{slotMark, putMark, markWords}
 use Rattle.nodes.specs.Arms.{arms, recordAt}
 use Rattle.nodes.specs.Holds.{number, armOf, Holds, CarriesBag}
-use Rattle.table.specs.Tally.{visited, lost, pack}
+use Rattle.table.specs.Tally.{visited, pack}
+use Rattle.table.specs.Limits.{lost}
 use Rattle.table.specs.After.{After, after}
 use Rattle.nodes.proofs.Frames.{sets-append}
 use Rattle.table.proofs.Lists.{markWords-append, markWords-length}

@@ -3,14 +3,22 @@
 use Prim.Native.Nat.{ℕ}
 use mathlib.Core.List.{List}
 use Rattle.model.specs.Sheet.{Box, alongY}
-use Rattle.table.specs.Layout.{recordPlace, deepest}
+use Rattle.table.specs.Layout.{recordPlace}
+use Rattle.table.specs.Limits.{deepest, lost}
 use Rattle.table.specs.Tally.{visited}
 use Rattle.nodes.specs.Arms.{Arm}
 use Rattle.nodes.specs.Count.{Kind, sideAlong, lowFrom, highFrom, lowEnd, highEnd, openFrom, countTree}
 
 -- an auxiliary tree has all its records in one level
-abbrev pub auxiliaryKind : Kind
-auxiliaryKind = record { place = recordPlace; deeper = λ base. base; take = λ base a tally. visited tally (a .weight) }
+abbrev pub auxiliaryKind : Kind ℕ
+auxiliaryKind = record {
+  place = recordPlace;
+  deeper = λ base. base;
+  take = λ base a tally. visited tally (a .weight);
+  skip = λ a tally. visited tally 0;
+  visit = λ tally. visited tally 0;
+  lost = lost;
+}
 
 abbrev pub low♯ : List ℕ → Box → ℕ → ℕ → ℕ → ℕ
 low♯ xs b base n tally = lowFrom auxiliaryKind (sideAlong alongY b) xs deepest base n tally

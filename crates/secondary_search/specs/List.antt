@@ -10,7 +10,8 @@ use Rattle.model.specs.Sheet.{Box, alongY}
 use Rattle.table.specs.Layout.{recordPlace, listPlace}
 use Rattle.table.specs.Marks.{slotMark, putMark}
 use Rattle.nodes.specs.Arms.{Arm, Record, recordAt}
-use Rattle.table.specs.Tally.{visited, lost}
+use Rattle.table.specs.Tally.{visited}
+use Rattle.table.specs.Limits.{lost}
 use Rattle.table.specs.After.{After, after}
 
 -- a walk from a node's number, a tally and the list so far

@@ -22,9 +22,9 @@ fn from_low(t: &[u32], base: u32, b: Box, start: Secondary, from: u64) -> u64
         left -= 1;
         let s = node.slot();
         if SecondaryRecord::is_missing(t, base, s) {
-            return tally::LOST;
+            return limits::LOST;
         }
-        let p = SecondaryRecord::present(t, base, s);
+        let p = SecondaryRecord::load(t, base, s);
         let l = p.left;
         let r = p.right;
         let left_node = l.node;
@@ -42,7 +42,7 @@ fn from_low(t: &[u32], base: u32, b: Box, start: Secondary, from: u64) -> u64
             node = left_node;
         }
     }
-    tally::LOST
+    limits::LOST
 }
 
 // Beneath a node that begins on the side, and in which it ends.
@@ -56,9 +56,9 @@ fn to_high(t: &[u32], base: u32, b: Box, start: Secondary, from: u64) -> u64
         left -= 1;
         let s = node.slot();
         if SecondaryRecord::is_missing(t, base, s) {
-            return tally::LOST;
+            return limits::LOST;
         }
-        let p = SecondaryRecord::present(t, base, s);
+        let p = SecondaryRecord::load(t, base, s);
         let l = p.left;
         let r = p.right;
         let left_node = l.node;
@@ -76,7 +76,7 @@ fn to_high(t: &[u32], base: u32, b: Box, start: Secondary, from: u64) -> u64
             node = right_node;
         }
     }
-    tally::LOST
+    limits::LOST
 }
 
 // The arrival at a tree that ends no later than the side, and at one that begins no earlier.
@@ -118,9 +118,9 @@ fn opened(t: &[u32], base: u32, b: Box, start: Secondary, from: u64) -> u64
         left -= 1;
         let s = node.slot();
         if SecondaryRecord::is_missing(t, base, s) {
-            return tally::LOST;
+            return limits::LOST;
         }
-        let p = SecondaryRecord::present(t, base, s);
+        let p = SecondaryRecord::load(t, base, s);
         let l = p.left;
         let r = p.right;
         let left_node = l.node;
@@ -137,7 +137,7 @@ fn opened(t: &[u32], base: u32, b: Box, start: Secondary, from: u64) -> u64
             }
         }
     }
-    tally::LOST
+    limits::LOST
 }
 
 // The marks of a tree on the box's side, and the visits, onto a tally.

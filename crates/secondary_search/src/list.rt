@@ -3,7 +3,7 @@ ghost use mathlib.Core.Path.{_≡_};
 ghost use Rattle.geometry.specs.Values.{boxValue};
 ghost use Rattle.nodes.specs.Values.{secondaryArm};
 ghost use Rattle.table.specs.After.{after};
-ghost use Rattle.table.specs.Layout.{deepest};
+ghost use Rattle.table.specs.Limits.{deepest};
 ghost use Rattle.secondary_search.specs.List.{walk♯, list♯};
 use geometry::Box;
 use nodes::secondary::Secondary;
@@ -26,10 +26,10 @@ fn walk(
     ensures { λ r. ⌜ after r (now (out .exit)) ≡ walk♯ fuel (now (t .entry)) base most (node .0) tally (now (out .entry)) ⌝ }
 {
     if fuel == 0 {
-        return tally::LOST;
+        return limits::LOST;
     }
     if most <= tally::visits(tally) {
-        return tally::LOST;
+        return limits::LOST;
     }
     let s = node.slot();
     if node.is_leaf() {
@@ -57,10 +57,10 @@ fn list_beneath(
     ensures { λ r. ⌜ after r (now (out .exit)) ≡ list♯ fuel (now (t .entry)) base (boxValue b) most (secondaryArm a) tally (now (out .entry)) ⌝ }
 {
     if fuel == 0 {
-        return tally::LOST;
+        return limits::LOST;
     }
     if most <= tally::visits(tally) {
-        return tally::LOST;
+        return limits::LOST;
     }
     let node = a.node;
     if b.inside_y(a.least, a.greatest) {

@@ -6,7 +6,8 @@ use mathlib.Core.Bool.{true}
 use mathlib.Core.List.{List}
 use mathlib.Core.Option.{Option, some}
 use native.Mathlib.Omega.{arith}
-use lib.ListN.{length, getD}
+use lib.ListN.{length}
+use borrow.Author.Tests.{le-ltb}
 use Rattle.model.specs.Register.{Register, innermost}
 use Rattle.model.specs.Tree.{Tree, node, marks, Balanced, insertLeaf}
 use Rattle.model.specs.Fold.{insertRebuilt, strikeRebuilt, fold}
@@ -14,16 +15,17 @@ use Rattle.model.specs.Sheet.{Mark, Box, sheet, alongY}
 use Rattle.model.specs.Slots.{slotSpace, slotAxis}
 use Rattle.model.specs.Laws.{Sorted}
 use Rattle.model.proofs.Orders.{sheet-sameness, same-sound, alongY-laws}
-use Rattle.table.specs.Layout.{capacityPlace, auxiliaryPlace, runPlace, recordPlace, deepest, damaged}
+use Rattle.table.specs.Layout.{auxiliaryPlace, runPlace, recordPlace, levelEnd}
+use Rattle.table.specs.Limits.{deepest, damaged}
 use Rattle.table.specs.Marks.{slotMark}
 use Rattle.nodes.specs.Arms.{Arm, armAt}
 use Rattle.nodes.specs.Holds.{armOf, times, Held}
-use Rattle.nodes.proofs.Frames.{Region}
+use Rattle.nodes.proofs.Frames.{Region, level-there}
 use Rattle.nodes.proofs.Held.{Leaves}
 use Rattle.nodes.proofs.Spots.{auxiliary-spot, LeavesAt}
 use Rattle.nodes.proofs.Levels.{held-shallow}
-use Rattle.secondary_update.specs.Insert.{insert♯}
-use Rattle.secondary_update.specs.Strike.{strike♯}
+use Rattle.secondary_update.specs.Insert.{insert♯, auxiliaryInsert♯}
+use Rattle.secondary_update.specs.Strike.{strikeFrom, auxiliaryStrike♯}
 use Rattle.secondary_update.proofs.Inserting.{axis-coordinate, Ready, grows-sound, insert-holds}
 use Rattle.secondary_update.proofs.Striking.{strike-leads, strike-holds}
 
@@ -51,16 +53,16 @@ module _ (f : ℕ → Mark) (base C : ℕ) (xs : List ℕ) where
     pub figure : rebuilt ≡ n
     pub sound : rebuilt ≡ damaged → ⊥
 
-  module _ (g : Region (recordPlace base) C (length xs)) (c : getD xs capacityPlace 0 ≡ C) (s : ℕ) where
+  module _ (g : Region (recordPlace base) C (length xs)) (s : ℕ) where
     pub auxiliary-insert : (owner : ℕ) (t : Tree ℕ (List ℕ)) → runPlace C C ≤ base → owner < C → armAt xs (auxiliaryPlace owner) ≡ armOf alongY f t
         → Held alongY f (recordPlace base) C xs t → Balanced t → Sorted (slotAxis f alongY) (marks t) → s < C → slotMark xs s ≡ f s → times s t ≡ 0
-        → let p = insert♯ alongY deepest (recordPlace base) (f s) s true (auxiliaryPlace owner) xs in
+        → let p = auxiliaryInsert♯ base C (f s) s owner xs in
         BecomesAt (auxiliaryPlace owner) (auxiliaryOf f .insert s (some t)) (insertRebuilt (slotAxis f alongY) (carried f) s (some t)) (p .out) (p .words)
+    unfolding auxiliaryInsert♯
     auxiliary-insert owner t low k a h b o inC marked z =
         let d = held-shallow h b (g .small) in
         let ready : Ready alongY f (carried f) (recordPlace base) C s (auxiliaryPlace owner) xs t = record {
           region = g;
-          capacity = c;
           marked = marked;
           is = a;
           held = h;
@@ -71,16 +73,18 @@ module _ (f : ℕ → Mark) (base C : ℕ) (xs : List ℕ) where
         let e = insert-holds alongY f (carried f) (recordPlace base) C s inC (axis-coordinate alongY-laws same-sound) deepest t true (auxiliaryPlace owner) xs ready
         (omega arith) (omega arith) b in
         let sound = grows-sound alongY f (carried f) (recordPlace base) C s (auxiliaryPlace owner) xs
-        (insert♯ alongY deepest (recordPlace base) (f s) s true (auxiliaryPlace owner) xs) true (insertLeaf (slotAxis f alongY) (carried f) s t) (g .small) e in
-        record { tree = _; is = refl; leaves = e .0; figure = e .1; sound = sound }
+        (insert♯ alongY deepest C (recordPlace base) (f s) s true (auxiliaryPlace owner) xs) true (insertLeaf (slotAxis f alongY) (carried f) s t) (g .small) e in
+        rw (le-ltb (length xs) (levelEnd base C) (level-there base C (length xs) g (omega arith)))
+        (record { tree = _; is = refl; leaves = e .0; figure = e .1; sound = sound })
 
-    -- a strike also gives the least slot left, where the least was struck
-    pub auxiliary-strike : (i : List ℕ) (l r : Tree ℕ (List ℕ)) → Held alongY f (recordPlace base) C xs (node i l r) → Balanced (node i l r)
-        → Sorted (slotAxis f alongY) (marks (node i l r)) → 0 < times s (node i l r)
-        → let p = strike♯ alongY deepest (recordPlace base) (f s) s true (armOf alongY f (node i l r)) xs in
+    pub auxiliary-strike : (owner : ℕ) (i : List ℕ) (l r : Tree ℕ (List ℕ)) → owner < C → armAt xs (auxiliaryPlace owner) ≡ armOf alongY f (node i l r)
+        → Held alongY f (recordPlace base) C xs (node i l r) → Balanced (node i l r) → Sorted (slotAxis f alongY) (marks (node i l r)) → 0 < times s (node i l r)
+        → let p = auxiliaryStrike♯ base C (f s) s owner xs in
         Becomes (auxiliaryOf f .strike s (some (node i l r))) (strikeRebuilt (slotAxis f alongY) (carried f) s (some (node i l r))) (p .out .arm) (p .out .rebuilt) (p .words)
-    auxiliary-strike i l r h b o k =
+    unfolding auxiliaryStrike♯ strikeFrom
+    auxiliary-strike owner i l r k a h b o n =
         let d = held-shallow h b (g .small) in
-        let w = strike-leads alongY f s sheet-sameness alongY-laws (node i l r) o k in
-        let e = strike-holds alongY f (carried f) (recordPlace base) C s xs g c deepest true i l r w h (omega arith) (omega arith) b in
-        record { tree = _; is = refl; leaves = e .leaves; figure = e .rebuilt }
+        let w = strike-leads alongY f s sheet-sameness alongY-laws (node i l r) o n in
+        let e = strike-holds alongY f (carried f) (recordPlace base) C s xs g deepest i l r w h b (omega arith) (omega arith) in
+        rw (le-ltb (length xs) (levelEnd base C) (level-there base C (length xs) g (omega arith)), a)
+        (record { tree = _; is = refl; leaves = e .leaves; figure = e .figure })

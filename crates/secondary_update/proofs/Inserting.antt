@@ -7,8 +7,8 @@ use mathlib.Core.List.{List, [], _∷_, _++_}
 use mathlib.Core.Logic.{_⊎_, inl, inr}
 use native.Mathlib.Omega.{arith}
 use lib.Dec.{ltb, eqb}
-use lib.ListN.{length, getD}
-use borrow.Author.Tests.{eq-eqb, ne-eqb, eqb-true, ltb-true, ltb-false}
+use lib.ListN.{length}
+use borrow.Author.Tests.{eq-eqb, ne-eqb, eqb-true, ltb-true, ltb-false, lt-leb}
 use Rattle.model.specs.Lists.{indicator}
 use Rattle.model.specs.Axis.{Space, Axis}
 use Rattle.model.specs.Register.{Register}
@@ -18,23 +18,26 @@ use Rattle.model.specs.Tree.{Tree, leaf, node, weight, depth, marks, least, gre
 use Rattle.model.specs.Laws.{AxisLaws, Sorted}
 use Rattle.model.proofs.Logic.{by-cases, clash}
 use Rattle.model.proofs.Sorted.{sorted-left, sorted-right, sorted-across}
-use Rattle.model.proofs.Tree.{weight-pos, marks-pos, all-least, all-greatest, build-marks}
+use Rattle.model.proofs.Tree.{weight-pos, weight-marks, marks-pos, all-least, all-greatest, build-marks}
 use Rattle.model.proofs.Rebalance.{rebalance-left, rebalance-right, rebuilt-left, rebuilt-right}
-use Rattle.table.specs.Layout.{capacityPlace, damaged}
+use Rattle.table.specs.Limits.{damaged, noSlot}
 use Rattle.table.specs.Marks.{slotMark}
-use Rattle.nodes.specs.Arms.{Arm, arm, arms, grownArm, armAt, putArm}
-use Rattle.table.specs.Weights.{sum, lesser, greater}
+use Rattle.nodes.specs.Arms.{Arm, arm, arms, grownArm, armAt, putArm, childAt}
+use Rattle.nodes.specs.Weights.{sum, unbalances}
+use Rattle.table.specs.Words.{lesser, greater}
 use Rattle.nodes.specs.Holds.{number, armOf, times, Held}
 use Rattle.table.specs.After.{After, after}
-use Rattle.nodes.proofs.Frames.{Region, frame-refl}
+use Rattle.nodes.proofs.Unchanged.{unchanged-refl, putArm-unchanged}
+use Rattle.nodes.proofs.Frames.{Region, frameAt-weaken, putArm-frame}
 use Rattle.nodes.proofs.Held.{times-node, times-least, held-weight, held-least, held-left, held-right, leafArm-of, Names, greatest-marks, names-marks, Leaves}
-use Rattle.nodes.proofs.Spots.{record-arms, putArm-length, putArm-same, frameAt-of, frameAt-weaken, putArm-frame, Spot, spot-weaken, record-spot, spot-capacity, spot-mark, spot-held, LeavesAt, put-leaves, left-leaves, right-leaves}
+use Rattle.nodes.proofs.Spots.{record-arms, putArm-same, Spot, spot-weaken, record-spot, spot-mark, spot-held, LeavesAt, put-leaves, left-leaves, right-leaves}
+use Rattle.nodes.proofs.Collecting.{every-slot}
 use Rattle.secondary_build.specs.Build.{rebuild♯}
 use Rattle.secondary_build.proofs.Building.{rebuild-holds}
-use Rattle.secondary_update.specs.Insert.{unsteady♯, childPlace, nodeAt, split♯, putFresh, afresh♯, Insertion, insertAfresh, insertWay, insertRecord, insertArm, insertNode, insert♯}
+use Rattle.secondary_update.specs.Insert.{nodeAt, split♯, putFresh, rebuiltAt, afresh♯, Insertion, insertAfresh, insertWay, insertRecord, insertArm, insertNode, insert♯}
 use Rattle.secondary_update.proofs.Mending.{mended, figure, MayMend}
 use Rattle.secondary_update.proofs.Mended.{mended-marks, mended-times, mended-weight, mended-least, mayMend-left, mayMend-right}
-use Rattle.secondary_update.proofs.Joining.{node-leaves}
+use Rattle.secondary_update.proofs.Node.{node-leaves}
 
 -- what insertion does to a tree, whatever the order
 module _ {B I : Type 0} (X : Axis ℕ B) (R : Register ℕ B I) (s : ℕ) where
@@ -200,7 +203,6 @@ module _ {I : Type 0} (A : Axis Mark Box) (f : ℕ → Mark) (R : Register ℕ B
   -- before the insertion of slot s: the tree is held, in order and without the slot, its arm stands at a spot, and the slot has its mark
   pub record Ready (at : ℕ) (xs : List ℕ) (t : Tree ℕ I) : Type 0 where
     pub region : Region place C (length xs)
-    pub capacity : getD xs capacityPlace 0 ≡ C
     pub marked : slotMark xs s ≡ f s
     pub is : armAt xs at ≡ armOf A f t
     pub held : Held A f place C xs t
@@ -223,7 +225,7 @@ module _ {I : Type 0} (A : Axis Mark Box) (f : ℕ → Mark) (R : Register ℕ B
   grows-sound at xs p mends t small h e = omega (arith, h .1, figure-weight mends t, mended-weight X R mends t, held-weight (h .0 .held))
 
   -- what was inserted without mending is built afresh
-  module _ (at : ℕ) (xs ws : List ℕ) (i : I) (l r : Tree ℕ I) (g : Region place C (length xs)) (c : getD xs capacityPlace 0 ≡ C)
+  module _ (at : ℕ) (xs ws : List ℕ) (i : I) (l r : Tree ℕ I) (g : Region place C (length xs))
       (spot : Spot place C (Names (node i l r)) at (length xs)) (h : LeavesAt A f place C at xs ws (node i l r)) where
     abbrev fresh : Tree ℕ I
     fresh = build X R (least l) (marks l ++ marks r)
@@ -232,20 +234,20 @@ module _ {I : Type 0} (A : Axis Mark Box) (f : ℕ → Mark) (R : Register ℕ B
     fresh-marks = build-marks X R (least l) (marks l ++ marks r) (marks-pos (node i l r))
 
     abbrev rebuilding : After Arm
-    rebuilding = rebuild♯ A place (armOf A f (node i l r)) ws
+    rebuilding = rebuild♯ A place C noSlot (weight l + weight r) (weight l + weight r) (2 * least r + 1) ws
 
     fresh-leaves : depth (node i l r) < 40 → Leaves A f place C ws (rebuilding .out) (rebuilding .words) fresh
     fresh-leaves deep =
-        rebuild-holds A f place C R (least l) (node i l r) ws (subst (Region place C) (sym (h .frame .long)) g)
-        (spot-capacity spot g (λ q k. h .held .within q (k .0)) (h .frame) ∙ c) (h .held) deep
+        rebuild-holds A f place C R noSlot (weight l + weight r) (least l) (node i l r) (marks l ++ marks r) ws (subst (Region place C) (sym (h .frame .long)) g)
+        (h .held) deep (sym (every-slot (node i l r) (g .small) (h .held))) (marks-pos (node i l r)) (weight-marks (node i l r)) .0
 
-    afresh-words : depth (node i l r) < 40 → afresh♯ A place at 0 ws ≡ after (weight l + weight r) (putArm (rebuilding .words) at (rebuilding .out))
-    unfolding afresh♯ putFresh
+    afresh-words : depth (node i l r) < 40 → afresh♯ A C place at 0 ws ≡ after (weight l + weight r) (putArm (rebuilding .words) at (rebuilding .out))
+    unfolding afresh♯ rebuiltAt putFresh
     afresh-words deep =
         let e : rebuilding .out .weight ≡ weight fresh = ap (λ a. a .weight) (fresh-leaves deep .is) in
         rw (h .is, ne-eqb (rebuilding .out .weight) 0 (omega (arith, weight-pos fresh)))
 
-    afresh-grows : depth (node i l r) < 40 → evenly l r ≡ false → Grows at xs (afresh♯ A place at 0 ws) true (node i l r)
+    afresh-grows : depth (node i l r) < 40 → evenly l r ≡ false → Grows at xs (afresh♯ A C place at 0 ws) true (node i l r)
     afresh-grows deep u =
         let old = names-marks fresh (node i l r) fresh-marks in
         let new = names-marks (node i l r) fresh (sym fresh-marks) in
@@ -254,11 +256,11 @@ module _ {I : Type 0} (A : Axis Mark Box) (f : ℕ → Mark) (R : Register ℕ B
         let k = put-leaves A f fresh refl (spot-weaken old spot) (frameAt-weaken new (h .frame)) (fresh-leaves deep) in
         rw (afresh-words deep) (subst (LeavesAt A f place C at xs _) (sym e) k, sym n)
 
-  again-grows : (at : ℕ) (xs : List ℕ) (rec : Insertion) (i : I) (l r : Tree ℕ I) → Region place C (length xs) → getD xs capacityPlace 0 ≡ C
+  again-grows : (at : ℕ) (xs : List ℕ) (rec : Insertion) (i : I) (l r : Tree ℕ I) → Region place C (length xs)
       → Spot place C (Names (node i l r)) at (length xs) → depth (node i l r) < 40 → evenly l r ≡ false → Grows at xs (rec false at xs) false (node i l r)
-      → Grows at xs (insertAfresh A rec place at xs) true (node i l r)
+      → Grows at xs (insertAfresh A rec C place at xs) true (node i l r)
   unfolding insertAfresh
-  again-grows at xs rec i l r g c spot deep u h = rw (h .1) (afresh-grows at xs (rec false at xs .words) i l r g c spot (h .0) deep u)
+  again-grows at xs rec i l r g spot deep u h = rw (h .1) (afresh-grows at xs (rec false at xs .words) i l r g spot (h .0) deep u)
 
   module _ (inC : s < C) where
     pub leaf-held : (xs : List ℕ) → slotMark xs s ≡ f s → Held {I = I} A f place C xs (leaf s)
@@ -288,9 +290,9 @@ module _ {I : Type 0} (A : Axis Mark Box) (f : ℕ → Mark) (R : Register ℕ B
         → Grows at xs (after 0 (nodeAt place at b (armOf {I = I} A f (leaf a)) (armOf {I = I} A f (leaf b)) xs)) mends (node i (leaf a) (leaf b))
     unfolding nodeAt
     pair-grows true at xs i a b g ha hb d spot =
-        (put-leaves A f (node i (leaf a) (leaf b)) refl spot (frameAt-of (frame-refl xs)) (node-leaves A f i (leaf a) (leaf b) xs g ha hb d), refl)
+        (put-leaves A f (node i (leaf a) (leaf b)) refl spot (unchanged-refl xs) (node-leaves A f i (leaf a) (leaf b) xs g ha hb d), refl)
     pair-grows false at xs i a b g ha hb d spot =
-        (put-leaves A f (node i (leaf a) (leaf b)) refl spot (frameAt-of (frame-refl xs)) (node-leaves A f i (leaf a) (leaf b) xs g ha hb d), refl)
+        (put-leaves A f (node i (leaf a) (leaf b)) refl spot (unchanged-refl xs) (node-leaves A f i (leaf a) (leaf b) xs g ha hb d), refl)
 
     split-grows : (mends : Bool) (at : ℕ) (xs : List ℕ) (q : ℕ) → Ready at xs (leaf q)
         → Grows at xs (after 0 (split♯ A place (f s) s at (armOf {I = I} A f (leaf q)) xs)) mends (grow (leaf q))
@@ -321,22 +323,17 @@ module _ {I : Type 0} (A : Axis Mark Box) (f : ℕ → Mark) (R : Register ℕ B
       room = k .spot .room
 
       long : length widened ≡ length xs
-      long = putArm-length xs at wide room
+      long = putArm-unchanged xs at wide .long
 
       widened-region : Region place C (length widened)
       widened-region = subst (Region place C) (sym long) (k .region)
 
-      widened-capacity : getD widened capacityPlace 0 ≡ C
-      widened-capacity =
-          spot-capacity (k .spot) (k .region) (λ q p. grown-within (node i l r) (k .held) q (p .0))
-          (putArm-frame xs at wide room) ∙ k .capacity
-
       widened-marked : slotMark widened s ≡ f s
-      widened-marked = spot-mark (k .spot) xs wide refl s inC ∙ k .marked
+      widened-marked = spot-mark (k .spot) xs wide s inC ∙ k .marked
 
       widened-held : Held A f place C widened (node i l r)
       widened-held =
-          spot-held (k .spot) xs wide refl A f (node i l r)
+          spot-held (k .spot) xs wide A f (node i l r)
           (insert-names X R s (node i l r) (k .new)) (k .held)
 
       named : least r < C
@@ -356,7 +353,6 @@ module _ {I : Type 0} (A : Axis Mark Box) (f : ℕ → Mark) (R : Register ℕ B
       left-ready : Ready (place (least r)) widened l
       left-ready = record {
         region = widened-region;
-        capacity = widened-capacity;
         marked = widened-marked;
         is = ap (λ p. p .left) children;
         held = held-left widened-held;
@@ -369,7 +365,6 @@ module _ {I : Type 0} (A : Axis Mark Box) (f : ℕ → Mark) (R : Register ℕ B
       right-ready : A .below (f s) (f (least r)) ≡ false → Ready (place (least r) + 4) widened r
       right-ready e = record {
         region = widened-region;
-        capacity = widened-capacity;
         marked = widened-marked;
         is = ap (λ p. p .right) children;
         held = held-right widened-held;
@@ -390,7 +385,7 @@ module _ {I : Type 0} (A : Axis Mark Box) (f : ℕ → Mark) (R : Register ℕ B
           let e′ : armAt widened at ≡ armOf A f (node here (grow l) r) = (rw e at is-widened) in
           let u = left-leaves A f (k .region) here m r (spot-weaken names (rw e at (k .spot))) d long
           (rw (mended-arm-left A f R s mends here (grow l) r) e′)
-          (putArm-frame xs at wide room) (held-right widened-held) (ap (λ p. p .right) children) (h .0) in (
+          (putArm-frame xs at wide) (held-right widened-held) (ap (λ p. p .right) children) (h .0) in (
             subst (LeavesAt A f place C at xs (p .words)) (sym (steady-left X R here (grow l) r mends b t)) u,
             rw (figure-left X R here (grow l) r mends b t) (h .1),
           )
@@ -407,7 +402,7 @@ module _ {I : Type 0} (A : Axis Mark Box) (f : ℕ → Mark) (R : Register ℕ B
           let e′ : armAt widened at ≡ armOf A f (node here l (grow r)) = (rw e at is-widened) in
           let u = right-leaves A f (k .region) here l m (spot-weaken names (rw e at (k .spot))) d long
           (rw (mended-arm-right A f R s mends here l (grow r)) e′)
-          (putArm-frame xs at wide room) (held-left widened-held)
+          (putArm-frame xs at wide) (held-left widened-held)
           (subst (λ q. armAt widened (place q) ≡ armOf A f l) (sym name) (ap (λ p. p .left) children))
           (subst (λ q. LeavesAt A f place C (place q + 4) widened (p .words) m) (sym name) (h .0)) in (
             subst (LeavesAt A f place C at xs (p .words)) (sym (steady-right X R here l (grow r) mends b t)) u,
@@ -415,8 +410,8 @@ module _ {I : Type 0} (A : Axis Mark Box) (f : ℕ → Mark) (R : Register ℕ B
           )
 
       -- the mirror at a node, and its way to either child
-      insert♯-node : (fuel : ℕ) (mends : Bool) → insert♯ A (suc fuel) place (f s) s mends at xs
-          ≡ insertWay A (insert♯ A fuel place (f s) s) place (f s) (least r) (A .below (f s) (f (least r))) (arms (armOf A f l) (armOf A f r)) mends at (armOf A f (node i l r)) xs
+      insert♯-node : (fuel : ℕ) (mends : Bool) → insert♯ A (suc fuel) C place (f s) s mends at xs
+          ≡ insertWay A (insert♯ A fuel C place (f s) s) C place (f s) (least r) (A .below (f s) (f (least r))) (arms (armOf A f l) (armOf A f r)) mends at (armOf A f (node i l r)) xs
       unfolding insert♯ insertNode insertArm insertRecord
       insert♯-node fuel mends =
           let odd : ((2 * least r + 1) % 2 ≡ 0 → ⊥) = omega arith in
@@ -424,8 +419,9 @@ module _ {I : Type 0} (A : Axis Mark Box) (f : ℕ → Mark) (R : Register ℕ B
           let member : 0 < times (least r) (node i l r) = omega (arith, times-node (least r) i l r, times-least r) in
           rw (
             k .is,
-            ne-eqb ((2 * least r + 1) % 2) 0 odd,
             half,
+            lt-leb C (least r) named,
+            ne-eqb ((2 * least r + 1) % 2) 0 odd,
             k .held .records .0,
             eq-eqb (weight l + weight r) (weight l + weight r) refl,
             k .held .marked (least r) member,
@@ -439,24 +435,24 @@ module _ {I : Type 0} (A : Axis Mark Box) (f : ℕ → Mark) (R : Register ℕ B
 
       module _ (rec : Insertion) where
         abbrev Way : Bool → Bool → After ℕ
-        Way left mends = insertWay A rec place (f s) (least r) left (arms (armOf A f l) (armOf A f r)) mends at (armOf A f (node i l r)) xs
+        Way left mends = insertWay A rec C place (f s) (least r) left (arms (armOf A f l) (armOf A f r)) mends at (armOf A f (node i l r)) xs
 
         way-left : (mends : Bool) → Steady X R here (grow l) r mends → Way true mends ≡ rec mends (place (least r)) widened
-        unfolding insertWay unsteady♯ childPlace
+        unfolding insertWay unbalances childAt
         way-left true t = rw (next-left, t refl)
         way-left false t = refl
 
         way-right : (mends : Bool) → Steady X R here l (grow r) mends → Way false mends ≡ rec mends (place (least r) + 4) widened
-        unfolding insertWay unsteady♯ childPlace
+        unfolding insertWay unbalances childAt
         way-right true t = rw (next-right, t refl)
         way-right false t = refl
 
-        afresh-left : evenly (grow l) r ≡ false → Way true true ≡ insertAfresh A rec place at xs
-        unfolding insertWay unsteady♯
+        afresh-left : evenly (grow l) r ≡ false → Way true true ≡ insertAfresh A rec C place at xs
+        unfolding insertWay unbalances
         afresh-left u = rw (next-left, u)
 
-        afresh-right : evenly l (grow r) ≡ false → Way false true ≡ insertAfresh A rec place at xs
-        unfolding insertWay unsteady♯
+        afresh-right : evenly l (grow r) ≡ false → Way false true ≡ insertAfresh A rec C place at xs
+        unfolding insertWay unbalances
         afresh-right u = rw (next-right, u)
 
         -- where mending is asked and the node will not be even, its tree is grown without mending, and then built afresh
@@ -469,7 +465,7 @@ module _ {I : Type 0} (A : Axis Mark Box) (f : ℕ → Mark) (R : Register ℕ B
               by-cases (evenly (grow l) r)
               (λ t. rw (way-left true (λ z. t)) (left-grows true (rec true (place (least r)) widened) e b (λ z. t) h))
               (λ u. rw (afresh-left u)
-              (again-grows at xs rec here (grow l) r (k .region) (k .capacity) (rw e at (k .spot))
+              (again-grows at xs rec here (grow l) r (k .region) (rw e at (k .spot))
               (omega (arith, insert-depth X R s l)) u (rw e at (again refl))))
           left-way false e b h again = rw (way-left false (λ z. clash z refl)) (left-grows false (rec false (place (least r)) widened) e b (λ z. clash z refl) h)
 
@@ -481,7 +477,7 @@ module _ {I : Type 0} (A : Axis Mark Box) (f : ℕ → Mark) (R : Register ℕ B
               by-cases (evenly l (grow r))
               (λ t. rw (way-right true (λ z. t)) (right-grows true (rec true (place (least r) + 4) widened) e b (λ z. t) h))
               (λ u. rw (afresh-right u)
-              (again-grows at xs rec here l (grow r) (k .region) (k .capacity) (rw e at (k .spot))
+              (again-grows at xs rec here l (grow r) (k .region) (rw e at (k .spot))
               (omega (arith, insert-depth X R s r)) u (rw e at (again refl))))
           right-way false e b h again =
               rw (way-right false (λ z. clash z refl)) (right-grows false (rec false (place (least r) + 4) widened) e b (λ z. clash z refl) h)
@@ -489,17 +485,18 @@ module _ {I : Type 0} (A : Axis Mark Box) (f : ℕ → Mark) (R : Register ℕ B
     -- THE INSERTION: where mending is asked, a step of fuel more may be spent on the tree that is built afresh
     pub insert-holds : ByCoordinate A → (fuel : ℕ) (t : Tree ℕ I) (mends : Bool) (at : ℕ) (xs : List ℕ) → Ready at xs t → depth t + indicator mends < fuel → depth t + 1 < 40
         → MayMend mends t
-        → LeavesAt A f place C at xs (insert♯ A fuel place (f s) s mends at xs .words) (mended (slotAxis f A) R mends (insertLeaf (slotAxis f A) R s t))
-        × (insert♯ A fuel place (f s) s mends at xs .out ≡ figure mends (insertLeaf (slotAxis f A) R s t))
+        → LeavesAt A f place C at xs (insert♯ A fuel C place (f s) s mends at xs .words) (mended (slotAxis f A) R mends (insertLeaf (slotAxis f A) R s t))
+        × (insert♯ A fuel C place (f s) s mends at xs .out ≡ figure mends (insertLeaf (slotAxis f A) R s t))
     unfolding insert♯ insertNode insertArm
     insert-holds K zero t mends at xs k n d b = absurd (omega arith)
     insert-holds K (suc fuel) (leaf q) mends at xs k n d b =
         let even : 2 * q % 2 ≡ 0 = omega arith in
-        rw (k .is, eq-eqb (2 * q % 2) 0 even) (split-grows mends at xs q k)
+        let half : 2 * q / 2 ≡ q = omega arith in
+        rw (k .is, half, lt-leb C q (held-least (k .held)), eq-eqb (2 * q % 2) 0 even) (split-grows mends at xs q k)
     insert-holds K (suc fuel) (node i l r) mends at xs k n d b =
-        let again : (mends ≡ true → Grows at xs (insert♯ A fuel place (f s) s false at xs) false (grow (node i l r))) =
+        let again : (mends ≡ true → Grows at xs (insert♯ A fuel C place (f s) s false at xs) false (grow (node i l r))) =
         λ e. insert-holds K fuel (node i l r) false at xs k (let m = (rw e at n) in omega arith) d tt in
-        let rec : Insertion = insert♯ A fuel place (f s) s in
+        let rec : Insertion = insert♯ A fuel C place (f s) s in
         rw (insert♯-node K at xs i l r k fuel mends)
         (by-cases (A .below (f s) (f (least r)))
         (λ e. rw e (left-way K at xs i l r k rec d mends e (mayMend-right mends i l r b)

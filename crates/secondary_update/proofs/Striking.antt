@@ -1,17 +1,17 @@
 -- The strike of a slot that stands in a tree: what it leaves of the tree, and that the mirror of the strike leaves words that hold it. Assumes nothing.
 use Prim.Native.Nat.{ℕ, zero, suc, _+_, _*_, _-_, _/_, _≤_, _<_}
-use mathlib.Core.Path.{_≡_, refl, sym, ap, subst}
-use mathlib.Core.Bool.{Bool, true, false, _&&_}
-use mathlib.Core.List.{List}
+use mathlib.Core.Path.{_≡_, refl, sym, ap, subst, _∙_}
+use mathlib.Core.Bool.{true, false}
+use mathlib.Core.List.{List, append-nil}
 use mathlib.Core.Option.{Option, none, some}
 use native.Mathlib.Omega.{arith}
 use lib.Dec.{eqb}
-use lib.ListN.{length, getD}
-use borrow.Author.Tests.{eq-eqb, ne-eqb, eqb-true, eqb-false}
+use lib.ListN.{length}
+use borrow.Author.Tests.{lt-leb, eq-eqb, ne-eqb, eqb-true, eqb-false}
 use Rattle.model.specs.Lists.{if_then_else_, indicator}
 use Rattle.model.specs.Axis.{Space, Axis}
 use Rattle.model.specs.Register.{Register}
-use Rattle.model.specs.Tree.{Tree, leaf, node, weight, depth, marks, least, evenly, withLeft, withRight, strikeLeaf}
+use Rattle.model.specs.Tree.{Tree, leaf, node, weight, depth, marks, least, evenly, Balanced, build, withLeft, withRight, strikeLeaf, rebalance, rebuilt}
 use Rattle.model.specs.Slots.{slotSpace, slotAxis}
 use Rattle.model.specs.Sheet.{Mark, Box}
 use Rattle.model.specs.Laws.{SamenessLaws, AxisLaws, Sorted}
@@ -19,19 +19,20 @@ use Rattle.model.proofs.Logic.{by-cases, clash, not-true-false}
 use Rattle.model.proofs.Lists.{all-map, countIf-none}
 use Rattle.model.proofs.Sorted.{sorted-left, sorted-right}
 use Rattle.model.proofs.Slots.{slotSpace-sameness, slotAxis-laws}
-use Rattle.model.proofs.Tree.{weight-pos, all-above, left-all-below}
-use Rattle.model.proofs.Rebalance.{balanced-rebuilt, balanced-rebalance}
-use Rattle.table.specs.Layout.{capacityPlace}
-use Rattle.nodes.specs.Arms.{arms}
-use Rattle.nodes.specs.Holds.{armOf, times, Held}
-use Rattle.table.specs.After.{After}
-use Rattle.nodes.proofs.Frames.{Region, frame-refl}
-use Rattle.nodes.proofs.Held.{times-node, times-least, held-left, held-right, Leaves}
+use Rattle.model.proofs.Tree.{weight-pos, weight-marks, marks-pos, all-above, left-all-below, rebalance-marks, rebalance-weight}
+use Rattle.model.proofs.Rebalance.{balanced-rebuilt, balanced-rebalance, rebalance-left, rebalance-right, rebuilt-left, rebuilt-right}
+use Rattle.table.proofs.RunSlots.{asSlot-is}
+use Rattle.nodes.specs.Arms.{Record, arms, renamed}
+use Rattle.nodes.specs.Holds.{number, armOf, timesIn, times, Held}
+use Rattle.table.specs.After.{After, after}
+use Rattle.nodes.proofs.Unchanged.{unchanged-refl}
+use Rattle.nodes.proofs.Frames.{Region}
+use Rattle.nodes.proofs.Held.{times-node, times-least, held-left, held-right, held-least, least-marks, Leaves}
+use Rattle.nodes.proofs.Without.{without, without-append, without-none}
+use Rattle.secondary_build.proofs.Building.{rebuild-holds}
 use Rattle.secondary_update.specs.Updates.{Strike, strikeOf}
-use Rattle.secondary_update.specs.Strike.{Striking, ifStruck, withFirst, renamed♯, strikeLeft, strikeRight, strikeRecord, strikeNode, strike♯}
-use Rattle.secondary_update.proofs.Mending.{mended, figure, MayMend}
-use Rattle.secondary_update.proofs.Mended.{mayMend-left, mayMend-right, mayMend-and}
-use Rattle.secondary_update.proofs.Joining.{join-left, join-right}
+use Rattle.secondary_update.specs.Strike.{Striking, ifStruck, strikeOver, freshStrike, strikeAfresh, strikeLeft, strikeRight, strikeRecord, strikeNode, strike♯}
+use Rattle.secondary_update.proofs.Node.{over-left, over-right}
 
 -- a slot that would be below itself, were it s, is not s
 not-itself : {S : Space Mark Box} (A : Axis Mark Box) (f : ℕ → Mark) → SamenessLaws S → AxisLaws S A → (s q : ℕ) → (s ≡ q → A .below (f s) (f s) ≡ true) → eqb s q ≡ false
@@ -125,6 +126,28 @@ module _ {I : Type 0} (A : Axis Mark Box) (f : ℕ → Mark) (s : ℕ) where
     strikes-depth (inLeft e h) = omega (arith, strikes-depth h)
     strikes-depth (inRight e h) = omega (arith, strikes-depth h)
 
+    -- it is the model's strike, and leaves the other slots in their order
+    pub strikes-leaf : {t t′ : Tree ℕ I} → Strikes t t′ → strikeLeaf (slotAxis f A) R s t ≡ some t′
+    strikes-leaf (leftGoes e) = rw e
+    strikes-leaf (rightGoes e) = rw e
+    strikes-leaf (inLeft e h) = rw (e, strikes-leaf h)
+    strikes-leaf (inRight e h) = rw (e, strikes-leaf h)
+
+    pub strikes-marks : {t t′ : Tree ℕ I} → Strikes t t′ → ((q : ℕ) → times q t ≤ 1) → marks t′ ≡ without s (marks t)
+    strikes-marks (leftGoes {i = i} {r = r} e) once =
+        let z = once s in
+        rw (eq-eqb s s refl) (sym (without-none s (marks r) (omega (arith, (rw (eq-eqb s s refl) at z)))))
+    strikes-marks (rightGoes {i = i} {l = l} e) once =
+        let z = (rw (times-node s i l (leaf s), eq-eqb s s refl) at (once s)) in
+        rw (without-append s (marks l) (marks {I = I} (leaf s)), eq-eqb s s refl, without-none s (marks l) (omega (arith, z)))
+        (sym (append-nil (marks l)))
+    strikes-marks (inLeft {i = i} {l = l} {l′ = l′} {r = r} e h) once =
+        let z : timesIn s (marks r) ≡ 0 = omega (arith, once s, times-node s i l r, strikes-in h) in
+        rw (without-append s (marks l) (marks r), strikes-marks h (λ q. omega (arith, once q, times-node q i l r)), without-none s (marks r) z)
+    strikes-marks (inRight {i = i} {l = l} {r = r} {r′ = r′} e h) once =
+        let z : timesIn s (marks l) ≡ 0 = omega (arith, once s, times-node s i l r, strikes-in h) in
+        rw (without-append s (marks l) (marks r), strikes-marks h (λ q. omega (arith, once q, times-node q i l r)), without-none s (marks l) z)
+
     -- the least stays, where it is not struck
     pub strikes-least : {t t′ : Tree ℕ I} → Strikes t t′ → (least t ≡ s → ⊥) → least t′ ≡ least t
     strikes-least (leftGoes e) n = absurd (n refl)
@@ -138,123 +161,188 @@ apart-least i l r s once h e =
     let z = subst (λ q. 0 < times q l) e (times-least l) in
     omega (arith, once s, times-node s i l r)
 
--- mending changes nothing of a balanced tree
-module _ {I : Type 0} where
-  unmended-figure : (b : Bool) (t : Tree ℕ I) → MayMend b t → figure b t ≡ 0
-  unmended-figure true t h = balanced-rebuilt t h
-  unmended-figure false t h = refl
-
-  unmended : {B : Type 0} (X : Axis ℕ B) (R : Register ℕ B I) (b : Bool) (t : Tree ℕ I) → MayMend b t → mended X R b t ≡ t
-  unmended X R true t h = balanced-rebalance X R t h
-  unmended X R false t h = refl
-
 module _ {I : Type 0} (A : Axis Mark Box) (f : ℕ → Mark) (R : Register ℕ Box I) (place : ℕ → ℕ) (C : ℕ) (s : ℕ) where
-  -- what a strike from t leaves: t′, mended where that is asked, the figure, and t′'s least where t's was struck
-  pub record LeavesStruck (xs : List ℕ) (mends : Bool) (t t′ : Tree ℕ I) (p : After Strike) : Type 0 where
-    pub leaves : Leaves A f place C xs (p .out .arm) (p .words) (mended (slotAxis f A) R mends t′)
-    pub rebuilt : p .out .rebuilt ≡ figure mends t′
+  abbrev X : Axis ℕ Box
+  X = slotAxis f A
+
+  -- what a strike from t leaves: t′ mended, the figure, and t′'s least where t's was struck
+  pub record LeavesStruck (xs : List ℕ) (t t′ : Tree ℕ I) (p : After Strike) : Type 0 where
+    pub leaves : Leaves A f place C xs (p .out .arm) (p .words) (rebalance (slotAxis f A) R t′)
+    pub figure : p .out .rebuilt ≡ rebuilt t′
     pub first : least t ≡ s → p .out .first ≡ least t′
 
-  -- a child's sibling stays
-  stays-leaves : (xs : List ℕ) (mends : Bool) (t : Tree ℕ I) → Held A f place C xs t → MayMend mends t
-      → Leaves A f place C xs (armOf A f t) xs (mended (slotAxis f A) R mends t)
-  stays-leaves xs mends t h b = rw (unmended (slotAxis f A) R mends t b) record { is = refl; held = h; frame = frame-refl xs }
-
-  -- at a node whose record is sound, the mirror goes by the order
-  strike♯-node : (n : ℕ) (mends : Bool) (i : I) (l r : Tree ℕ I) (xs : List ℕ) → Held A f place C xs (node i l r)
-      → strike♯ A (suc n) place (f s) s mends (armOf A f (node i l r)) xs
-      ≡ (if A .below (f s) (f (least r)) then strikeLeft A (strike♯ A n place (f s) s) place (least r) (arms (armOf A f l) (armOf A f r)) mends xs
-      else strikeRight A (strike♯ A n place (f s) s) place s (least r) (arms (armOf A f l) (armOf A f r)) mends xs)
-  unfolding strike♯ strikeNode strikeRecord
-  strike♯-node n mends i l r xs h =
-      let half : (2 * least r + 1) / 2 ≡ least r = omega arith in
-      let w : eqb (weight l + weight r) (weight l + weight r) ≡ true = eq-eqb (weight l + weight r) (weight l + weight r) refl in
-      rw (half, h .records .0, w, h .marked (least r) (omega (arith, times-node (least r) i l r, times-least r)))
-
-  -- the slot's leaf is the node's left, or right, child: its sibling takes the node's place
-  left-goes : (rec : Striking) (mends : Bool) (i : I) (r : Tree ℕ I) (xs : List ℕ) → Held A f place C xs (node i (leaf s) r) → MayMend mends (node i (leaf s) r)
-      → LeavesStruck xs mends (node i (leaf s) r) r (strikeLeft A rec place (least r) (arms (armOf {I = I} A f (leaf s)) (armOf A f r)) mends xs)
-  unfolding strikeLeft strikeOf
-  left-goes rec mends i r xs h b =
-      let m = mayMend-right mends i (leaf s) r b in
-      record { leaves = stays-leaves xs mends r (held-right h) m; rebuilt = sym (unmended-figure mends r m); first = λ e. refl }
-
-  right-goes : (rec : Striking) (mends : Bool) (i : I) (l : Tree ℕ I) (xs : List ℕ) → Held A f place C xs (node i l (leaf s)) → MayMend mends (node i l (leaf s))
-      → LeavesStruck xs mends (node i l (leaf s)) l (strikeRight A rec place s s (arms (armOf A f l) (armOf {I = I} A f (leaf s))) mends xs)
-  unfolding strikeRight strikeOf
-  right-goes rec mends i l xs h b =
-      let m = mayMend-left mends i l (leaf s) b in
-      record {
-        leaves = stays-leaves xs mends l (held-left h) m;
-        rebuilt = sym (unmended-figure mends l m);
-        first = λ e. absurd (apart-least i l (leaf s) s (h .once) (times-least {I = I} (leaf s)) e);
-      }
-
   -- the name of a node whose right child is struck: a new one, where the slot was its name
-  pub renamed-least : (r r′ : Tree ℕ I) (first : ℕ) → Strikes A f s R r r′ → (least r ≡ s → first ≡ least r′) → renamed♯ (least r) s first ≡ least r′
-  unfolding renamed♯
-  renamed-least r r′ first k h =
+  pub renamed-least : (r r′ : Tree ℕ I) (first : ℕ) → Strikes A f s R r r′ → least r′ < C → (least r ≡ s → first ≡ least r′)
+      → renamed C (least r) s first ≡ least r′
+  unfolding renamed
+  renamed-least r r′ first k inC h =
       by-cases (eqb (least r) s)
-      (λ t. rw t (h (eqb-true (least r) s t)))
+      (λ t. rw (t, h (eqb-true (least r) s t)) (asSlot-is C (least r′) inC))
       (λ u. rw u (sym (strikes-least A f s R k (eqb-false (least r) s u))))
 
-  module _ (xs : List ℕ) (g : Region place C (length xs)) (c : getD xs capacityPlace 0 ≡ C) where
-    -- it stands deeper on the left
-    left-deeper : (rec : Striking) (mends : Bool) (i j : I) (l l′ r : Tree ℕ I) → Strikes A f s R l l′ → Held A f place C xs (node i l r) → depth (node i l r) < 40
-        → MayMend mends (node i l r) → LeavesStruck xs (mends && evenly l′ r) l l′ (rec (mends && evenly l′ r) (armOf A f l) xs)
-        → LeavesStruck xs mends (node i l r) (node j l′ r) (strikeLeft A rec place (least r) (arms (armOf A f l) (armOf A f r)) mends xs)
-    unfolding strikeLeft ifStruck withFirst strikeOf
-    left-deeper rec mends i j l l′ r k h deep b q =
-        let p : After Strike = rec (mends && evenly l′ r) (armOf A f l) xs in
+  -- a child's sibling takes the node's place
+  stays : (xs : List ℕ) (t u : Tree ℕ I) (first : ℕ) → Held A f place C xs u → Balanced u → (least t ≡ s → first ≡ least u)
+      → LeavesStruck xs t u (after (strikeOf (armOf A f u) 0 first) xs)
+  unfolding strikeOf
+  stays xs t u first h b e = record {
+    leaves = rw (balanced-rebalance X R u b) record { is = refl; held = h; frame = unchanged-refl xs };
+    figure = sym (balanced-rebuilt u b);
+    first = e;
+  }
+
+  -- a node that will not be even is built afresh of its other slots
+  afresh-holds : (d : ℕ) (t t′ : Tree ℕ I) (xs : List ℕ) → Strikes A f s R t t′ → Region place C (length xs) → Held A f place C xs t → depth t < 40
+      → rebalance X R t′ ≡ build X R d (marks t′) → rebuilt t′ ≡ weight t′
+      → LeavesStruck xs t t′ (strikeAfresh A C place s (weight t) (number t) xs)
+  unfolding strikeAfresh freshStrike strikeOf
+  afresh-holds d t t′ xs k g h deep e n =
+      let w : weight t - 1 ≡ weight t′ = omega (arith, strikes-weight A f s R k) in
+      let a = rebuild-holds A f place C R s (weight t′) d t (marks t′) xs g h deep (strikes-marks A f s R k (h .once)) (marks-pos t′) (weight-marks t′) in
+      rw w record {
+        leaves = rw e (a .0);
+        figure = sym n;
+        first = λ z. a .1 ∙ ap least (sym e) ∙ least-marks (rebalance X R t′) t′ (rebalance-marks X R t′);
+      }
+
+  -- at a node whose record is sound, the mirror goes by the order
+  strike♯-node : (n : ℕ) (i : I) (l r : Tree ℕ I) (xs : List ℕ) → Held A f place C xs (node i l r)
+      → strike♯ A (suc n) C place (f s) s (weight l + weight r) (2 * least r + 1) xs
+      ≡ (let rec : Striking = strike♯ A n C place (f s) s in
+      let p : Record = arms (armOf A f l) (armOf A f r) in
+      if A .below (f s) (f (least r)) then strikeLeft A rec C place s (least r) p (weight l + weight r) (2 * least r + 1) xs
+      else strikeRight A rec C place s (least r) p (weight l + weight r) (2 * least r + 1) xs)
+  unfolding strike♯ strikeNode strikeRecord
+  strike♯-node n i l r xs h =
+      let half : (2 * least r + 1) / 2 ≡ least r = omega arith in
+      let w : eqb (weight l + weight r) (weight l + weight r) ≡ true = eq-eqb (weight l + weight r) (weight l + weight r) refl in
+      rw (
+        half,
+        lt-leb C (least r) (held-least (held-right h)),
+        h .records .0,
+        w,
+        h .marked (least r) (omega (arith, times-node (least r) i l r, times-least r)),
+      )
+
+  -- the slot's leaf is the node's left, or right, child
+  left-goes : (rec : Striking) (i : I) (r : Tree ℕ I) (xs : List ℕ) → Held A f place C xs (node i (leaf s) r) → Balanced (node i (leaf s) r)
+      → LeavesStruck xs (node i (leaf s) r) r
+      (strikeLeft A rec C place s (least r) (arms (armOf {I = I} A f (leaf s)) (armOf A f r)) (1 + weight r) (2 * least r + 1) xs)
+  unfolding strikeLeft
+  left-goes rec i r xs h b = stays xs (node i (leaf s) r) r (least r) (held-right h) (b .3) (λ e. refl)
+
+  right-goes : (rec : Striking) (i : I) (l : Tree ℕ I) (xs : List ℕ) → Held A f place C xs (node i l (leaf s)) → Balanced (node i l (leaf s))
+      → LeavesStruck xs (node i l (leaf s)) l
+      (strikeRight A rec C place s s (arms (armOf A f l) (armOf {I = I} A f (leaf s))) (weight l + 1) (2 * s + 1) xs)
+  unfolding strikeRight
+  right-goes rec i l xs h b =
+      stays xs (node i l (leaf s)) l 0 (held-left h) (b .2) (λ e. absurd (apart-least i l (leaf s) s (h .once) (times-least {I = I} (leaf s)) e))
+
+  module _ (xs : List ℕ) (g : Region place C (length xs)) (rec : Striking) (i : I) (l r : Tree ℕ I) (h : Held A f place C xs (node i l r))
+      (b : Balanced (node i l r)) (deep : depth (node i l r) < 40) where
+    abbrev both : Record
+    both = arms (armOf A f l) (armOf A f r)
+
+    abbrev lefts : After Strike
+    lefts = strikeLeft A rec C place s (least r) both (weight l + weight r) (2 * least r + 1) xs
+
+    abbrev rights : After Strike
+    rights = strikeRight A rec C place s (least r) both (weight l + weight r) (2 * least r + 1) xs
+
+    node-apart : (z : ℕ) → times z l + times z r ≤ 1
+    node-apart z = omega (arith, h .once z, times-node z i l r)
+
+    -- the slot stands deeper on the left, and the node will be even
+    left-even : (l′ : Tree ℕ I) → Strikes A f s R l l′ → evenly l′ r ≡ true → LeavesStruck xs l l′ (rec (weight l) (number l) xs)
+        → LeavesStruck xs (node i l r) (node (R .strike s i) l′ r) lefts
+    unfolding strikeLeft ifStruck strikeOver strikeOf
+    left-even l′ k even q =
+        let j : I = R .strike s i in
+        let p : After Strike = rec (weight l) (number l) xs in
+        let m : Tree ℕ I = rebalance X R l′ in
         let w = strikes-weight A f s R k in
-        let v = strikes-depth A f s R k in
-        let m : Tree ℕ I = mended (slotAxis f A) R (mends && evenly l′ r) l′ in
         let many : eqb (weight l) 1 ≡ false = ne-eqb (weight l) 1 (omega (arith, weight-pos l′)) in
         let less : weight l - 1 ≡ weight l′ = omega arith in
-        let sound : eqb (p .out .arm .weight) 0 ≡ false = rw (q .leaves .is) (ne-eqb (weight m) 0 (omega (arith, weight-pos m))) in
-        let a = join-left A f R place C j l′ r (least r) mends (p .out .rebuilt) g c
-        (λ z. omega (arith, h .once z, times-node z i l r, strikes-times A f s R k z)) (omega arith) refl
-        (mayMend-right mends i l r b) (q .leaves) (held-right h) (q .rebuilt) in
-        rw (many, less, sound) record { leaves = a .0; rebuilt = a .1; first = q .first }
+        let one : p .out .arm .weight ≡ weight l′ = ap (λ a. a .weight) (q .leaves .is) ∙ rebalance-weight X R l′ in
+        let same : ((z : ℕ) → times z m ≡ times z l′) = λ z. ap (timesIn z) (rebalance-marks X R l′) in
+        let apart : ((z : ℕ) → times z m + times z r ≤ 1) = λ z. omega (arith, same z, node-apart z, strikes-times A f s R k z) in
+        rw (many, less, even, eq-eqb (p .out .arm .weight) (weight l′) one, q .leaves .is) record {
+          leaves = rw (rebalance-left X R j l′ r (b .3), even) (over-left A f j m r g apart (q .leaves) (held-right h));
+          figure = rw (rebuilt-left j l′ r (b .3), even) (q .figure);
+          first = q .first;
+        }
 
     -- or on the right
-    right-deeper : (rec : Striking) (mends : Bool) (i j : I) (l r r′ : Tree ℕ I) → Strikes A f s R r r′ → Held A f place C xs (node i l r) → depth (node i l r) < 40
-        → MayMend mends (node i l r) → LeavesStruck xs (mends && evenly l r′) r r′ (rec (mends && evenly l r′) (armOf A f r) xs)
-        → LeavesStruck xs mends (node i l r) (node j l r′) (strikeRight A rec place s (least r) (arms (armOf A f l) (armOf A f r)) mends xs)
-    unfolding strikeRight ifStruck withFirst strikeOf
-    right-deeper rec mends i j l r r′ k h deep b q =
-        let other : (least l ≡ s → 0 ≡ least l) = λ e. absurd (apart-least i l r s (h .once) (strikes-in A f s R k) e) in
-        let p : After Strike = rec (mends && evenly l r′) (armOf A f r) xs in
+    right-even : (r′ : Tree ℕ I) → Strikes A f s R r r′ → evenly l r′ ≡ true → LeavesStruck xs r r′ (rec (weight r) (number r) xs)
+        → LeavesStruck xs (node i l r) (node (R .strike s i) l r′) rights
+    unfolding strikeRight ifStruck strikeOver strikeOf
+    right-even r′ k even q =
+        let j : I = R .strike s i in
+        let p : After Strike = rec (weight r) (number r) xs in
+        let m : Tree ℕ I = rebalance X R r′ in
         let w = strikes-weight A f s R k in
-        let v = strikes-depth A f s R k in
-        let m : Tree ℕ I = mended (slotAxis f A) R (mends && evenly l r′) r′ in
         let many : eqb (weight r) 1 ≡ false = ne-eqb (weight r) 1 (omega (arith, weight-pos r′)) in
         let less : weight r - 1 ≡ weight r′ = omega arith in
-        let sound : eqb (p .out .arm .weight) 0 ≡ false = rw (q .leaves .is) (ne-eqb (weight m) 0 (omega (arith, weight-pos m))) in
-        let a = join-right A f R place C j l r′ (renamed♯ (least r) s (p .out .first)) mends (p .out .rebuilt) g c
-        (λ z. omega (arith, h .once z, times-node z i l r, strikes-times A f s R k z)) (omega arith) (renamed-least r r′ (p .out .first) k (q .first))
-        (mayMend-left mends i l r b) (held-left h) (q .leaves) (q .rebuilt) in
-        rw (many, less, sound) record { leaves = a .0; rebuilt = a .1; first = other }
+        let one : p .out .arm .weight ≡ weight r′ = ap (λ a. a .weight) (q .leaves .is) ∙ rebalance-weight X R r′ in
+        let same : ((z : ℕ) → times z m ≡ times z r′) = λ z. ap (timesIn z) (rebalance-marks X R r′) in
+        let apart : ((z : ℕ) → times z l + times z m ≤ 1) = λ z. omega (arith, same z, node-apart z, strikes-times A f s R k z) in
+        let least-m : least m ≡ least r′ = least-marks m r′ (rebalance-marks X R r′) in
+        let inC : least r′ < C = rw (← least-m) (held-least (q .leaves .held)) in
+        let named : renamed C (least r) s (p .out .first) ≡ least m = renamed-least r r′ (p .out .first) k inC (q .first) ∙ sym least-m in
+        rw (many, less, even, eq-eqb (p .out .arm .weight) (weight r′) one, q .leaves .is, named) record {
+          leaves = rw (rebalance-right X R j l r′ (b .2), even) (over-right A f j l m g apart (held-left h) (q .leaves));
+          figure = rw (rebuilt-right j l r′ (b .2), even) (q .figure);
+          first = λ e. absurd (apart-least i l r s (h .once) (strikes-in A f s R k) e);
+        }
 
+    -- the node will not be even
+    left-uneven : (l′ : Tree ℕ I) → A .below (f s) (f (least r)) ≡ true → Strikes A f s R l l′ → evenly l′ r ≡ false
+        → LeavesStruck xs (node i l r) (node (R .strike s i) l′ r) lefts
+    unfolding strikeLeft
+    left-uneven l′ e k uneven =
+        let j : I = R .strike s i in
+        let w = strikes-weight A f s R k in
+        let many : eqb (weight l) 1 ≡ false = ne-eqb (weight l) 1 (omega (arith, weight-pos l′)) in
+        let less : weight l - 1 ≡ weight l′ = omega arith in
+        rw (many, less, uneven)
+        (afresh-holds (least l′) (node i l r) (node j l′ r) xs (inLeft e k) g h deep
+        (rw (rebalance-left X R j l′ r (b .3), uneven)) (rw (rebuilt-left j l′ r (b .3), uneven)))
+
+    right-uneven : (r′ : Tree ℕ I) → A .below (f s) (f (least r)) ≡ false → Strikes A f s R r r′ → evenly l r′ ≡ false
+        → LeavesStruck xs (node i l r) (node (R .strike s i) l r′) rights
+    unfolding strikeRight
+    right-uneven r′ e k uneven =
+        let j : I = R .strike s i in
+        let w = strikes-weight A f s R k in
+        let many : eqb (weight r) 1 ≡ false = ne-eqb (weight r) 1 (omega (arith, weight-pos r′)) in
+        let less : weight r - 1 ≡ weight r′ = omega arith in
+        rw (many, less, uneven)
+        (afresh-holds (least l) (node i l r) (node j l r′) xs (inRight e k) g h deep
+        (rw (rebalance-right X R j l r′ (b .2), uneven)) (rw (rebuilt-right j l r′ (b .2), uneven)))
+
+  module _ (xs : List ℕ) (g : Region place C (length xs)) where
     -- along the way
-    strikes-holds : (n : ℕ) (mends : Bool) {t t′ : Tree ℕ I} → Strikes A f s R t t′ → Held A f place C xs t → depth t < n → depth t < 40 → MayMend mends t
-        → LeavesStruck xs mends t t′ (strike♯ A n place (f s) s mends (armOf A f t) xs)
-    strikes-holds zero mends k h d deep b = absurd (omega arith)
-    strikes-holds (suc n) mends (leftGoes {i = i} {r = r} e) h d deep b =
-        rw (strike♯-node n mends i (leaf s) r xs h, e) (left-goes (strike♯ A n place (f s) s) mends i r xs h b)
-    strikes-holds (suc n) mends (rightGoes {i = i} {l = l} e) h d deep b =
-        rw (strike♯-node n mends i l (leaf s) xs h, e) (right-goes (strike♯ A n place (f s) s) mends i l xs h b)
-    strikes-holds (suc n) mends (inLeft {i = i} {l = l} {l′ = l′} {r = r} e k) h d deep b =
-        rw (strike♯-node n mends i l r xs h, e)
-        (left-deeper (strike♯ A n place (f s) s) mends i (R .strike s i) l l′ r k h deep b
-        (strikes-holds n (mends && evenly l′ r) k (held-left h) (omega arith) (omega arith) (mayMend-and mends (evenly l′ r) l (mayMend-left mends i l r b))))
-    strikes-holds (suc n) mends (inRight {i = i} {l = l} {r = r} {r′ = r′} e k) h d deep b =
-        rw (strike♯-node n mends i l r xs h, e)
-        (right-deeper (strike♯ A n place (f s) s) mends i (R .strike s i) l r r′ k h deep b
-        (strikes-holds n (mends && evenly l r′) k (held-right h) (omega arith) (omega arith) (mayMend-and mends (evenly l r′) r (mayMend-right mends i l r b))))
+    strikes-holds : (n : ℕ) {t t′ : Tree ℕ I} → Strikes A f s R t t′ → Held A f place C xs t → Balanced t → depth t < n → depth t < 40
+        → LeavesStruck xs t t′ (strike♯ A n C place (f s) s (weight t) (number t) xs)
+    strikes-holds zero k h b d deep = absurd (omega arith)
+    strikes-holds (suc n) (leftGoes {i = i} {r = r} e) h b d deep =
+        rw (strike♯-node n i (leaf s) r xs h, e) (left-goes (strike♯ A n C place (f s) s) i r xs h b)
+    strikes-holds (suc n) (rightGoes {i = i} {l = l} e) h b d deep =
+        rw (strike♯-node n i l (leaf s) xs h, e) (right-goes (strike♯ A n C place (f s) s) i l xs h b)
+    strikes-holds (suc n) (inLeft {i = i} {l = l} {l′ = l′} {r = r} e k) h b d deep =
+        let rec : Striking = strike♯ A n C place (f s) s in
+        rw (strike♯-node n i l r xs h, e)
+        (by-cases (evenly l′ r)
+        (λ t. left-even xs g rec i l r h b deep l′ k t (strikes-holds n k (held-left h) (b .2) (omega arith) (omega arith)))
+        (λ t. left-uneven xs g rec i l r h b deep l′ e k t))
+    strikes-holds (suc n) (inRight {i = i} {l = l} {r = r} {r′ = r′} e k) h b d deep =
+        let rec : Striking = strike♯ A n C place (f s) s in
+        rw (strike♯-node n i l r xs h, e)
+        (by-cases (evenly l r′)
+        (λ t. right-even xs g rec i l r h b deep r′ k t (strikes-holds n k (held-right h) (b .3) (omega arith) (omega arith)))
+        (λ t. right-uneven xs g rec i l r h b deep r′ e k t))
 
     -- THE STRIKE of a slot from a tree of two or more
-    pub strike-holds : (n : ℕ) (mends : Bool) (i : I) (l r : Tree ℕ I) → Leads A f s (node i l r) → Held A f place C xs (node i l r)
-        → depth (node i l r) < n → depth (node i l r) < 40 → MayMend mends (node i l r)
-        → LeavesStruck xs mends (node i l r) (struckNode A f s R i l r) (strike♯ A n place (f s) s mends (armOf A f (node i l r)) xs)
-    strike-holds n mends i l r w h d deep b = strikes-holds n mends (leads-strikes A f s R i l r w) h d deep b
+    pub strike-holds : (n : ℕ) (i : I) (l r : Tree ℕ I) → Leads A f s (node i l r) → Held A f place C xs (node i l r) → Balanced (node i l r)
+        → depth (node i l r) < n → depth (node i l r) < 40
+        → LeavesStruck xs (node i l r) (struckNode A f s R i l r) (strike♯ A n C place (f s) s (weight l + weight r) (2 * least r + 1) xs)
+    strike-holds n i l r w h b d deep = strikes-holds n (leads-strikes A f s R i l r w) h b d deep

@@ -2,6 +2,5 @@
 -- What they mean is in proofs/.
 pub mod Updates
 pub mod Values
-pub mod Node
 pub mod Insert
 pub mod Strike

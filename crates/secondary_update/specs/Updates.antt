@@ -1,17 +1,6 @@
--- What an update gives: the tree's arm and the weight of the node built afresh, or 0; a strike also the least slot left, where the least was struck.
--- Assumes nothing.
+-- What a strike gives: the tree's arm, the weight of the node built afresh, or 0, and the least slot left, where the least was struck. Assumes nothing.
 use Prim.Native.Nat.{ℕ}
 use Rattle.nodes.specs.Arms.{Arm, noArm}
-
-pub record Update : Type 0 where
-  pub arm : Arm
-  pub rebuilt : ℕ
-
-abbrev pub update : Arm → ℕ → Update
-update a n = record { arm = a; rebuilt = n }
-
-abbrev pub noUpdate : Update
-noUpdate = update noArm 0
 
 pub record Strike : Type 0 where
   pub arm : Arm

@@ -1,30 +1,29 @@
-// Strike.
+// Strike: down from the root by the order, records written on the way back. Where a node will not be balanced, it is built afresh of its other slots.
 ghost use mathlib.Core.Path.{_≡_};
-ghost use mathlib.Core.Bool.{true};
-ghost use Prim.Native.Nat.{_+_, _*_, _<_, _≤_};
+ghost use Prim.Native.Nat.{_+_, _<_, _≤_};
 ghost use lib.ListN.{length};
 ghost use Rattle.model.specs.Sheet.{alongY};
 ghost use Rattle.geometry.specs.Values.{markValue};
 ghost use Rattle.table.specs.After.{after};
-ghost use Rattle.table.specs.Layout.{recordPlace, deepest};
-ghost use Rattle.nodes.specs.Arms.{arm, overArm, putRecord};
+ghost use Rattle.table.specs.Layout.{recordWidth, recordPlace, runsEnd, levelEnd};
 ghost use Rattle.nodes.specs.Values.{secondaryArm};
-ghost use Rattle.secondary_update.specs.Node.{balanced, join♯};
-ghost use Rattle.secondary_update.specs.Strike.{renamed♯, withFirst, strike♯};
+ghost use Rattle.secondary_update.specs.Strike.{strikeOver, strikeAfresh, strike♯, auxiliaryStrike♯};
 ghost use Rattle.secondary_update.specs.Updates.{strikeOf, noStrike};
 ghost use Rattle.secondary_update.specs.Values.{struckValue};
-use crate::node;
 use geometry::Mark;
+use nodes::arm;
+use nodes::primary::PrimaryRecord;
 use nodes::secondary::Secondary;
 use nodes::secondary::SecondaryArm;
 use nodes::secondary::SecondaryRecord;
-use secondary_build::inside;
-use table::header;
+use nodes::weights;
+use table::layout;
 use table::limits;
+use table::runs;
 use table::slots;
-use table::weights;
 
-// What a strike leaves of a tree: its arm, the weight of the node built afresh, or 0, and its least slot where the struck one was the least.
+// What a strike leaves of a tree: its arm, the weight of the node built afresh, or 0, and its least slot where the struck one was the least. Weight 0 of the
+// arm: the words hold no tree.
 pub struct Struck {
     pub arm: SecondaryArm,
     pub rebuilt: u32,
@@ -52,67 +51,8 @@ fn damaged() -> Struck
     }
 }
 
-// The name of a node once slot s is struck: the least slot left in its right child, if that was s.
-pub fn renamed(name: u32, s: u32, first: u32) -> u32
-    ensures { λ r. ⌜ r ≡ renamed♯ name s first ⌝ }
-{
-    if name == s {
-        return first;
-    }
-    name
-}
-
-// Strikes the mark m of slot s beneath the arm of an inner node, with mending as in an insertion.
-fn strike_beneath(
-    t: &mut [u32],
-    base: u32,
-    a: SecondaryArm,
-    m: Mark,
-    s: u32,
-    mends: bool,
-    fuel: u32,
-) -> Struck
-    ensures { λ u. ⌜ after (struckValue u) (now (t .exit)) ≡ strike♯ alongY fuel (recordPlace base) (markValue m) s mends (secondaryArm a) (now (t .entry)) ⌝ }
-{
-    if fuel == 0 {
-        return damaged();
-    }
-    let node = a.node;
-    let name = node.slot();
-    let p = SecondaryRecord::at(t, base, name);
-    let l = p.left;
-    let r = p.right;
-    if weights::disagree(l.weight, r.weight, a.weight) {
-        return damaged();
-    }
-    if m.below_y(slots::mark_at(t, name)) {
-        if l.weight == 1 {
-            return answer(r, 0, name);
-        }
-        let even = weights::balanced(weights::fewer(l.weight), r.weight);
-        let u = strike_beneath(t, base, l, m, s, node::both(mends, even), fuel - 1);
-        let c = u.arm;
-        if c.weight == 0 {
-            return damaged();
-        }
-        let j = node::join(t, base, name, c, r, mends, u.rebuilt);
-        return answer(j.arm, j.rebuilt, u.first);
-    }
-    if r.weight == 1 {
-        return answer(l, 0, 0);
-    }
-    let even = weights::balanced(l.weight, weights::fewer(r.weight));
-    let u = strike_beneath(t, base, r, m, s, node::both(mends, even), fuel - 1);
-    let c = u.arm;
-    if c.weight == 0 {
-        return damaged();
-    }
-    let j = node::join(t, base, renamed(name, s, u.first), l, c, mends, u.rebuilt);
-    answer(j.arm, j.rebuilt, 0)
-}
-
-// Writes a node over l and r that is balanced.
-fn keep(
+// Writes the node of that name over l and r.
+fn strike_over(
     t: &mut [u32],
     base: u32,
     name: u32,
@@ -121,52 +61,33 @@ fn keep(
     rebuilt: u32,
     first: u32,
 ) -> Struck
-    ensures { λ u. ⌜ after (struckValue u) (now (t .exit)) ≡ after (strikeOf (overArm name (secondaryArm l) (secondaryArm r)) rebuilt first) (putRecord (now (t .entry)) (recordPlace base name) (secondaryArm l) (secondaryArm r)) ⌝ }
+    requires { ⌜ recordPlace base name + recordWidth ≤ length (now t) ⌝ }
+    ensures { λ u. ⌜ after (struckValue u) (now (t .exit)) ≡ strikeOver (recordPlace base) name (secondaryArm l) (secondaryArm r) rebuilt first (now (t .entry)) ⌝ }
 {
-    SecondaryRecord::put(t, base, name, l, r);
+    SecondaryRecord::store(t, base, name, l, r);
     answer(SecondaryArm::over(name, l, r), rebuilt, first)
 }
 
-// Writes a node over l and r, and builds it afresh where it is not balanced.
-fn mend(
+// Builds the tree of a node of that weight afresh without the slot s.
+fn strike_afresh(
     t: &mut [u32],
     base: u32,
-    name: u32,
-    l: SecondaryArm,
-    r: SecondaryArm,
-    rebuilt: u32,
-    first: u32,
-) -> Struck
-    ensures { λ u. ⌜ after (struckValue u) (now (t .exit)) ≡ withFirst first (join♯ alongY (recordPlace base) name (secondaryArm l) (secondaryArm r) true rebuilt (now (t .entry))) ⌝ }
-{
-    let j = node::join(t, base, name, l, r, true, rebuilt);
-    answer(j.arm, j.rebuilt, first)
-}
-
-// A strike that mends, beneath the node of that number and weight.
-fn strike_anywhere(
-    t: &mut [u32],
-    base: u32,
+    capacity: u32,
     node: Secondary,
     weight: u32,
-    m: Mark,
     s: u32,
-    fuel: u32,
 ) -> Struck
-    ensures { λ u. ⌜ after (struckValue u) (now (t .exit)) ≡ strike♯ alongY fuel (recordPlace base) (markValue m) s true (arm (node .0) weight 0 0) (now (t .entry)) ⌝ }
+    requires { ⌜ (0 < capacity) × (runsEnd capacity ≤ length (now t)) × (levelEnd base capacity ≤ length (now t)) ⌝ }
+    ensures { λ u. ⌜ after (struckValue u) (now (t .exit)) ≡ strikeAfresh alongY capacity (recordPlace base) s weight (node .0) (now (t .entry)) ⌝ }
 {
-    let a = SecondaryArm {
-        node,
-        weight,
-        least: 0,
-        greatest: 0,
-    };
-    strike_beneath(t, base, a, m, s, true, fuel)
+    let many = weights::fewer(weight);
+    let fresh = secondary_build::build::rebuild(t, base, capacity, node, weight, s, many);
+    let first = runs::run_slot(t, capacity, 0);
+    answer(fresh, many, first)
 }
 
-// The same where every record and mark of a slot below the capacity is there: without a test of their words. A name that is no slot, and a node that is to
-// be built afresh, are left to the way above. A child that lost one mark, as it will, leaves its node balanced.
-fn strike_inside(
+// Strikes the mark m of slot s beneath an inner node of that number and weight. A node of no slot is damage, and so is a child that does not lose one mark.
+fn strike_beneath(
     t: &mut [u32],
     base: u32,
     capacity: u32,
@@ -176,79 +97,71 @@ fn strike_inside(
     s: u32,
     fuel: u32,
 ) -> Struck
-    requires { ⌜ (0 < weight) × (64 + 16 * capacity ≤ length (now t)) × (base + 8 * capacity ≤ length (now t)) ⌝ }
-    ensures { λ u. ⌜ after (struckValue u) (now (t .exit)) ≡ strike♯ alongY fuel (recordPlace base) (markValue m) s true (arm (node .0) weight 0 0) (now (t .entry)) ⌝ }
+    requires { ⌜ (runsEnd capacity ≤ length (now t)) × (levelEnd base capacity ≤ length (now t)) ⌝ }
+    ensures { λ u. ⌜ after (struckValue u) (now (t .exit)) ≡ strike♯ alongY fuel capacity (recordPlace base) (markValue m) s weight (node .0) (now (t .entry)) ⌝ }
 {
     if fuel == 0 {
         return damaged();
     }
     let name = node.slot();
     if capacity <= name {
-        return strike_anywhere(t, base, node, weight, m, s, fuel);
-    }
-    let p = SecondaryRecord::present(t, base, name);
-    let left = p.left;
-    let right = p.right;
-    if weights::disagree(left.weight, right.weight, weight) {
         return damaged();
     }
-    if m.below_y(inside::mark_at(t, name)) {
-        if left.weight == 1 {
-            return answer(right, 0, name);
+    let p = SecondaryRecord::load(t, base, name);
+    let l = p.left;
+    let r = p.right;
+    if weights::disagree(l.weight, r.weight, weight) {
+        return damaged();
+    }
+    if m.below_y(slots::load(t, name)) {
+        if l.weight == 1 {
+            return answer(r, 0, name);
         }
-        let less = weights::fewer(left.weight);
-        if weights::balanced(less, right.weight) {
-            let u = strike_inside(t, base, capacity, left.node, left.weight, m, s, fuel - 1);
+        let less = weights::fewer(l.weight);
+        if weights::balanced(less, r.weight) {
+            let u = strike_beneath(t, base, capacity, l.node, l.weight, m, s, fuel - 1);
             let c = u.arm;
             if c.weight == less {
-                return keep(t, base, name, c, right, u.rebuilt, u.first);
+                return strike_over(t, base, name, c, r, u.rebuilt, u.first);
             }
-            if c.weight == 0 {
-                return damaged();
-            }
-            return mend(t, base, name, c, right, u.rebuilt, u.first);
-        }
-        return strike_anywhere(t, base, node, weight, m, s, fuel);
-    }
-    if right.weight == 1 {
-        return answer(left, 0, 0);
-    }
-    let less = weights::fewer(right.weight);
-    if weights::balanced(left.weight, less) {
-        let u = strike_inside(t, base, capacity, right.node, right.weight, m, s, fuel - 1);
-        let c = u.arm;
-        let named = renamed(name, s, u.first);
-        if c.weight == less {
-            return keep(t, base, named, left, c, u.rebuilt, 0);
-        }
-        if c.weight == 0 {
             return damaged();
         }
-        return mend(t, base, named, left, c, u.rebuilt, 0);
+        return strike_afresh(t, base, capacity, node, weight, s);
     }
-    strike_anywhere(t, base, node, weight, m, s, fuel)
+    if r.weight == 1 {
+        return answer(l, 0, 0);
+    }
+    let less = weights::fewer(r.weight);
+    if weights::balanced(l.weight, less) {
+        let u = strike_beneath(t, base, capacity, r.node, r.weight, m, s, fuel - 1);
+        let c = u.arm;
+        if c.weight == less {
+            let named = arm::renamed(capacity, name, s, u.first);
+            return strike_over(t, base, named, l, c, u.rebuilt, 0);
+        }
+        return damaged();
+    }
+    strike_afresh(t, base, capacity, node, weight, s)
 }
 
-// Strikes the mark m of slot s from the tree of an arm, which has two marks or more; the unbalanced node nearest the root is built afresh.
-pub fn strike(t: &mut [u32], base: u32, root: SecondaryArm, m: Mark, s: u32) -> Struck
-    ensures { λ u. ⌜ after (struckValue u) (now (t .exit)) ≡ strike♯ alongY deepest (recordPlace base) (markValue m) s true (secondaryArm root) (now (t .entry)) ⌝ }
+// Strikes the mark m of slot s from the auxiliary tree of the main node named `owner`, which has two marks or more, in the level whose records begin at
+// base; the unbalanced node nearest the root is built afresh. Records that are not all there are damage.
+pub fn strike(t: &mut [u32], base: u32, capacity: u32, owner: u32, m: Mark, s: u32) -> Struck
+    requires { ⌜ (owner < capacity) × (runsEnd capacity ≤ length (now t)) ⌝ }
+    ensures { λ u. ⌜ after (struckValue u) (now (t .exit)) ≡ auxiliaryStrike♯ base capacity (markValue m) s owner (now (t .entry)) ⌝ }
 {
-    let capacity = header::capacity(t);
-    if 0 < root.weight {
-        if 64 + 16 * (capacity as usize) <= t.len() {
-            if (base as usize) + 8 * (capacity as usize) <= t.len() {
-                return strike_inside(
-                    t,
-                    base,
-                    capacity,
-                    root.node,
-                    root.weight,
-                    m,
-                    s,
-                    limits::DEEPEST,
-                );
-            }
-        }
+    if t.len() < (base as usize) + layout::RECORD * (capacity as usize) {
+        return damaged();
     }
-    strike_anywhere(t, base, root.node, root.weight, m, s, limits::DEEPEST)
+    let root = PrimaryRecord::load_auxiliary(t, owner);
+    strike_beneath(
+        t,
+        base,
+        capacity,
+        root.node,
+        root.weight,
+        m,
+        s,
+        limits::DEEPEST,
+    )
 }

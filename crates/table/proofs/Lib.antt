@@ -1,3 +1,6 @@
 pub mod Lists
+pub mod RunSlots
 pub mod Stores
 pub mod Tallies
+pub mod Own
+pub mod Fuel

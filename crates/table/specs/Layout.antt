@@ -1,5 +1,30 @@
--- Where things stand in a table of a capacity (docs/LAYOUT.md, "Words"). Assumes nothing.
+-- Where things stand in a table of a capacity, and how many words each takes (docs/LAYOUT.md, "Words"): the same names as in src/layout.rt. Assumes nothing.
 use Prim.Native.Nat.{ℕ, _+_, _*_}
+
+-- the words before the slots
+abbrev pub headerWidth : ℕ
+headerWidth = 64
+
+-- words of a mark, of an arm, and of a record, two arms
+abbrev pub markWidth : ℕ
+markWidth = 3
+
+abbrev pub armWidth : ℕ
+armWidth = 4
+
+abbrev pub recordWidth : ℕ
+recordWidth = 8
+
+-- words of a slot: its mark, the record of the main node named so, the arm of that node's auxiliary tree, one unused
+abbrev pub slotWidth : ℕ
+slotWidth = 16
+
+-- words for each slot beside the levels, and in each level
+abbrev pub besideWidth : ℕ
+besideWidth = 32
+
+abbrev pub levelWidth : ℕ
+levelWidth = 16
 
 -- "Word 0 is 1 for an open table, word 1 is C, word 2 the live marks." (document 01, "Marks, boxes, tables")
 abbrev pub openPlace : ℕ
@@ -11,51 +36,53 @@ capacityPlace = 1
 abbrev pub livePlace : ℕ
 livePlace = 2
 
--- the slot s: x, y, tag, then the record of the main node named s and the arm of its auxiliary tree
-abbrev pub slotPlace : ℕ → ℕ
-slotPlace s = 64 + 16 * s
-
-abbrev pub mainPlace : ℕ → ℕ
-mainPlace name = 67 + 16 * name
-
-abbrev pub auxiliaryPlace : ℕ → ℕ
-auxiliaryPlace name = 75 + 16 * name
-
 -- the arm of the main tree's root
 abbrev pub rootPlace : ℕ
 rootPlace = 3
 
+-- the slot s, the record of the main node named so, and the arm of its auxiliary tree
+abbrev pub slotPlace : ℕ → ℕ
+slotPlace s = headerWidth + slotWidth * s
+
+abbrev pub mainPlace : ℕ → ℕ
+mainPlace name = headerWidth + markWidth + slotWidth * name
+
+abbrev pub auxiliaryPlace : ℕ → ℕ
+auxiliaryPlace name = headerWidth + markWidth + recordWidth + slotWidth * name
+
 module _ (capacity : ℕ) where
   -- used[i], and place[s]
   abbrev pub usedPlace : ℕ → ℕ
-  usedPlace i = 64 + 16 * capacity + i
+  usedPlace i = headerWidth + slotWidth * capacity + i
 
   abbrev pub placePlace : ℕ → ℕ
-  placePlace s = 64 + 17 * capacity + s
+  placePlace s = headerWidth + (slotWidth + 1) * capacity + s
 
   -- the word i of run A, and of run B
   abbrev pub runPlace : ℕ → ℕ
-  runPlace i = 64 + 18 * capacity + i
+  runPlace i = headerWidth + (slotWidth + 2) * capacity + i
 
   abbrev pub secondRunPlace : ℕ → ℕ
-  secondRunPlace i = 64 + 19 * capacity + i
+  secondRunPlace i = headerWidth + (slotWidth + 3) * capacity + i
 
   -- the records of the auxiliary trees of depth d
   abbrev pub levelPlace : ℕ → ℕ
-  levelPlace d = 64 + 32 * capacity + 16 * (d * capacity)
+  levelPlace d = headerWidth + besideWidth * capacity + levelWidth * (d * capacity)
 
 -- in a level whose records begin at base, the record of the auxiliary node named s
 abbrev pub recordPlace : ℕ → ℕ → ℕ
-recordPlace base name = base + 8 * name
+recordPlace base name = base + recordWidth * name
 
 -- the mark k of a list: "Three words a mark" (document 01, "The list")
 abbrev pub listPlace : ℕ → ℕ
-listPlace k = 3 * k
+listPlace k = markWidth * k
 
--- more levels than any tree of 65,536 marks has, D(65,536) = 38, with the one that an insertion may add
-abbrev pub deepest : ℕ
-deepest = 40
+-- what a table of a capacity has before its levels: slots, the lists of them and the runs; and the records of one level
+abbrev pub slotsEnd : ℕ → ℕ
+slotsEnd capacity = headerWidth + slotWidth * capacity
 
--- what is given in place of a slot or of an update's figure where the words hold no tree
-abbrev pub damaged : ℕ
-damaged = 4294967295
+abbrev pub runsEnd : ℕ → ℕ
+runsEnd capacity = headerWidth + (slotWidth + 4) * capacity
+
+abbrev pub levelEnd : ℕ → ℕ → ℕ
+levelEnd base capacity = base + recordWidth * capacity

@@ -5,14 +5,6 @@ use Prim.Native.Nat.{ℕ, _+_, _*_, _%_, _^_}
 unfoldable pub visited : ℕ → ℕ → ℕ
 visited tally w = (tally + (4294967296 * w + 1)) % 2 ^ 64
 
--- the tally of a search that met damage
-abbrev pub lost : ℕ
-lost = 2147483648
-
--- (4 D + 1) (2 D + 1) at D(65,536) = 38 (document 01, "The search and its visits", for the largest capacity)
-abbrev pub mostVisits : ℕ
-mostVisits = 11781
-
 -- the tally of k marks and v visits
 abbrev pub pack : ℕ → ℕ → ℕ
 pack k v = 4294967296 * k + v

@@ -3,9 +3,6 @@ ghost use mathlib.Core.Path.{_≡_};
 ghost use Prim.Native.Nat.{_/_, _%_};
 ghost use Rattle.table.specs.Tally.{visited};
 
-// The tally of a search that met damage: more visits than any budget, and so many that a few visits more leave it so.
-pub const LOST: u64 = 2147483648;
-
 // One visit more, with w marks.
 pub fn visit(tally: u64, w: u32) -> u64
     ensures { λ r. ⌜ r ≡ visited tally w ⌝ }

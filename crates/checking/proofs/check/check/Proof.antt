@@ -17,7 +17,9 @@ live-marks-requires c κs = search needs
 
 -- src/check.rt:47:1
 returns : tie.Need-returns
-returns c = let xs : List ℕ = now (c .before .before .args .t) in subst (Verdict xs) (sym (c .live-marks .ensures)) (check-exact xs)
+returns c =
+    let xs : List ℕ = now (c .before .before .args .t) in
+    subst (Verdict xs) (sym (c .live-marks .ensures)) (check-exact xs)
 
 pub check-spec : {M : Type 1} → statement M
 check-spec = tie.close (tie.spec live-marks-requires returns)

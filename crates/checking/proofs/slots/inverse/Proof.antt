@@ -1,6 +1,8 @@
+-- The loop keeps: left ≤ capacity; inverse♯ of left is that of capacity. What falls: left.
 use Prim.Native.Nat.{ℕ, _<_, _≤_}
 use mathlib.Core.Path.{_≡_}
 use native.Mathlib.Omega.{arith}
+use Rattle.table.proofs.Fuel.{positive, nothing}
 use Rattle.checking.proofs.slots.inverse.Statement.{statement}
 use Rattle.checking.specs.Slots.{inverse♯, inverse♯-zero, inverse♯-suc}
 use borrow.Author.Needs.{needs}
@@ -8,12 +10,6 @@ use Rattle.checking.proofs.slots.inverse.Tie as tie
 use Rattle.checking.proofs.slots.inverse.Reads as reads
 use Rattle.checking.proofs.slots.inverse.Lts as lts
 use Rattle.checking.proofs.slots.placed.Reads as placed-reads
-
-positive : (n : ℕ) → 0 < n → n ≡ 0 → ⊥
-positive n h e = omega arith
-
-nothing : (n : ℕ) → n ≤ 0 → n ≡ 0
-nothing n h = omega arith
 
 abbrev Inv-loop : tie.InvT-loop
 Inv-loop t capacity left₀ left = (left ≤ capacity) × (inverse♯ left capacity t ≡ inverse♯ capacity capacity t)
@@ -39,24 +35,29 @@ loop-less c = omega (arith, c .before .before .loop-test .taken)
 
 -- src/slots.rt:32:5
 loop-again : tie.Need-loop-again Inv-loop μ-loop
-loop-again c = (
-  omega (arith, c .before .before .before .loop .inv .0),
-  rw (
-    ← c .before .before .before .loop .inv .1,
-    inverse♯-suc _ (positive _ (c .before .before .loop-test .taken)),
-    ← c .before .placed .ensures,
-    c .if1 .taken,
-  ),
-)
+loop-again c =
+    let at-loop-test = c .before .before in
+    let at-loop = at-loop-test .before in (
+      omega (arith, at-loop .loop .inv .0),
+      rw (
+        ← at-loop .loop .inv .1,
+        inverse♯-suc _ (positive _ (at-loop-test .loop-test .taken)),
+        ← c .before .placed .ensures,
+        c .if1 .taken,
+      ),
+    )
 
 -- src/slots.rt:36:13
 returns : tie.Need-returns Inv-loop μ-loop
-returns c = rw (
-  ← c .before .before .before .loop .inv .1,
-  inverse♯-suc _ (positive _ (c .before .before .loop-test .taken)),
-  ← c .before .placed .ensures,
-  c .if1 .left,
-)
+returns c =
+    let at-loop-test = c .before .before in
+    let at-loop = at-loop-test .before in
+    rw (
+      ← at-loop .loop .inv .1,
+      inverse♯-suc _ (positive _ (at-loop-test .loop-test .taken)),
+      ← c .before .placed .ensures,
+      c .if1 .left,
+    )
 
 -- src/slots.rt:28:1
 returns-2 : tie.Need-returns-2 Inv-loop μ-loop

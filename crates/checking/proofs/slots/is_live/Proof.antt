@@ -1,25 +1,20 @@
 use borrow.Author.Needs.{needs}
 use Rattle.checking.proofs.slots.is_live.Statement.{statement}
-use borrow.Author.Tests.{le-leb, lt-leb}
+use borrow.Author.Tests.{lt-leb}
 use Rattle.checking.specs.Slots.{liveSlot♯}
 use Rattle.checking.proofs.slots.is_live.Tie as tie
 use Rattle.checking.proofs.slots.is_live.Reads as reads
 use Rattle.checking.proofs.slots.is_live.Lts as lts
 use Rattle.table.proofs.runs.place.Reads as place-reads
 
--- src/slots.rt:11:9
-returns : tie.Need-returns
-unfolding liveSlot♯
-returns c = rw (le-leb _ _ (c .if1 .taken))
-
--- src/slots.rt:13:5
+-- src/slots.rt:10:5
 place-requires : tie.Need-place-requires
 place-requires c κs = search needs
 
 -- src/slots.rt:7:1
-returns-2 : tie.Need-returns-2
+returns : tie.Need-returns
 unfolding liveSlot♯
-returns-2 c = rw (lt-leb _ _ (c .before .if1 .left), ← c .place .ensures)
+returns c = rw (lt-leb _ _ (c .before .before .pre), ← c .place .ensures)
 
 pub is-live-spec : {M : Type 1} → statement M
-is-live-spec = tie.close (tie.spec returns place-requires returns-2)
+is-live-spec = tie.close (tie.spec place-requires returns)

@@ -5,65 +5,74 @@ use Rattle.primary_insert.specs.Insert.{insertRoot, mainInsert♯}
 use Rattle.primary_insert.proofs.insert.insert.Tie as tie
 use Rattle.primary_insert.proofs.insert.insert.Reads as reads
 use Rattle.primary_insert.proofs.insert.insert.Lts as lts
-use Rattle.primary_insert.proofs.insert.insert_beneath.Reads as insert-beneath-reads
-use Rattle.table.proofs.header.capacity.Reads as capacity-reads
-use Rattle.nodes.proofs.primary.PrimaryArm.at.Reads as at-reads
 use Rattle.nodes.proofs.primary.PrimaryArm.leaf.Reads as leaf-reads
-use Rattle.nodes.proofs.primary.PrimaryArm.put.Reads as put-reads
-use Rattle.twofold.proofs.levels.top.Reads as top-reads
+use Rattle.nodes.proofs.primary.PrimaryArm.load.Reads as load-reads
+use Rattle.nodes.proofs.primary.PrimaryArm.store.Reads as store-reads
+use Rattle.primary_insert.proofs.insert.insert_beneath.Reads as insert-beneath-reads
+use Rattle.twofold_layout.proofs.levels.top.Reads as top-reads
 
--- src/insert.rt:100:9
-at-requires : tie.Need-at-requires
-at-requires c κs = search needs
+-- src/insert.rt:123:9
+load-requires : tie.Need-load-requires
+load-requires c κs = search needs
 
--- src/insert.rt:102:43
+-- src/insert.rt:125:44
 leaf-requires : tie.Need-leaf-requires
 leaf-requires c κs = search needs
 
--- src/insert.rt:102:9
-put-requires : tie.Need-put-requires
-put-requires c κs = search needs
+-- src/insert.rt:125:9
+store-requires : tie.Need-store-requires
+store-requires c κs = search needs
 
--- src/insert.rt:103:9
+-- src/insert.rt:126:9
 same-length : tie.Need-same-length
 same-length c = search needs
 
--- src/insert.rt:103:9
+-- src/insert.rt:126:9
 returns : tie.Need-returns
 unfolding mainInsert♯ insertRoot
-returns c = rw (← c .before .before .before .before .before .before .before .at .ensures, eq-eqb _ _ (c .before .before .before .before .before .if1 .taken), ← c .before .before .before .leaf .ensures, ← c .before .before .put .ensures)
+returns c =
+    let at-store = c .before .before in
+    let at-leaf = at-store .before in
+    let at-if1 = at-leaf .before .before in
+    let at-load = at-if1 .before .before in
+    rw (← at-load .load .ensures, eq-eqb _ _ (at-if1 .if1 .taken), ← at-leaf .leaf .ensures, ← at-store .store .ensures)
 
--- src/insert.rt:105:9
-capacity-requires : tie.Need-capacity-requires
-capacity-requires c κs = search needs
-
--- src/insert.rt:106:23
+-- src/insert.rt:130:9
 top-requires : tie.Need-top-requires
 top-requires c κs = search needs
 
--- src/insert.rt:106:5
+-- src/insert.rt:128:5
 insert-beneath-requires : tie.Need-insert-beneath-requires
 insert-beneath-requires c κs = search needs
 
--- src/insert.rt:97:1
+-- src/insert.rt:119:1
 same-length-2 : tie.Need-same-length-2
 same-length-2 c = search needs
 
--- src/insert.rt:97:1
+-- src/insert.rt:119:1
 returns-2 : tie.Need-returns-2
 unfolding mainInsert♯ insertRoot
-returns-2 c = rw (← c .before .before .before .before .before .before .before .before .before .at .ensures, ne-eqb _ _ (c .before .before .before .before .before .before .before .if1 .left), ← c .before .before .before .before .before .capacity .ensures, ← c .before .before .before .top .ensures, ← c .before .before .insert-beneath .ensures)
+returns-2 c =
+    let at-insert-beneath = c .before .before in
+    let at-top = at-insert-beneath .before in
+    let at-if1 = at-top .before .before in
+    let at-load = at-if1 .before .before in
+    rw (
+      ← at-load .load .ensures,
+      ne-eqb _ _ (at-if1 .if1 .left),
+      ← at-top .top .ensures,
+      ← at-insert-beneath .insert-beneath .ensures,
+    )
 
 pub insert-spec : {M : Type 1} → statement M
 insert-spec =
     tie.close
     (tie.spec
-    at-requires
+    load-requires
     leaf-requires
-    put-requires
+    store-requires
     same-length
     returns
-    capacity-requires
     top-requires
     insert-beneath-requires
     same-length-2

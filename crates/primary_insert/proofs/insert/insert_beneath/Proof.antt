@@ -1,166 +1,371 @@
 use Rattle.primary_insert.proofs.insert.insert_beneath.Statement.{statement}
 use native.Mathlib.Omega.{arith}
-use Prim.Native.Nat.{ℕ, _<_, _≤_, _^_}
+use Prim.Native.Nat.{_+_, _<_, _≤_, _^_}
 use mathlib.Core.Path.{_≡_}
 use lib.ListN.{length}
 use Rattle.geometry.specs.Values.{markValue}
-use borrow.Author.Tests.{eq-eqb, ne-eqb}
-use Rattle.primary_insert.specs.Insert.{insertBeneath♯, insertBeneath♯-suc, insertBeneath♯-zero, insertOn, mainInsertArm, mainInsertNode, mainInsertRecord, mainWay}
+use borrow.Author.Tests.{eq-eqb, ne-eqb, le-leb, lt-leb}
+use Rattle.primary_insert.specs.Insert.{insertBeneath♯, insertBeneath♯-suc, insertBeneath♯-zero}
+use Rattle.primary_insert.specs.Insert.{insertOn, mainInsertArm, mainInsertNode, mainInsertRecord, mainWay}
 use borrow.Author.Needs.{needs}
+use Rattle.table.proofs.Fuel.{positive, nothing}
+use Rattle.primary_insert.proofs.Steps.{child-there}
 use Rattle.primary_insert.proofs.insert.insert_beneath.Tie as tie
 use Rattle.primary_insert.proofs.insert.insert_beneath.Reads as reads
 use Rattle.primary_insert.proofs.insert.insert_beneath.Lts as lts
 use Rattle.geometry.proofs.Mark.below_x.Reads as below-x-reads
 use Rattle.primary_insert.proofs.insert.insert_afresh.Reads as insert-afresh-reads
 use Rattle.primary_insert.proofs.insert.insert_at_leaf.Reads as insert-at-leaf-reads
-use Rattle.primary_insert.proofs.main_tree.child_place.Reads as child-place-reads
+use Rattle.nodes.proofs.primary.PrimaryRecord.child.Reads as child-reads
 use Rattle.secondary_update.proofs.insert.insert.Reads as insert-reads
-use Rattle.secondary_update.proofs.insert.unsteady.Reads as unsteady-reads
+use Rattle.nodes.proofs.weights.unbalances.Reads as unbalances-reads
 use Rattle.nodes.proofs.primary.Primary.is_leaf.Reads as is-leaf-reads
 use Rattle.nodes.proofs.primary.Primary.slot.Reads as slot-reads
-use Rattle.nodes.proofs.primary.PrimaryArm.at.Reads as primary-PrimaryArm-at-reads
+use Rattle.nodes.proofs.primary.PrimaryArm.load.Reads as arm-load-reads
 use Rattle.nodes.proofs.primary.PrimaryArm.grown.Reads as grown-reads
-use Rattle.nodes.proofs.primary.PrimaryArm.put.Reads as put-reads
-use Rattle.nodes.proofs.primary.PrimaryRecord.at.Reads as primary-PrimaryRecord-at-reads
-use Rattle.table.proofs.slots.mark_at.Reads as mark-at-reads
-use Rattle.table.proofs.weights.disagree.Reads as disagree-reads
-use Rattle.twofold.proofs.levels.deeper.Reads as deeper-reads
-
-positive : (n : ℕ) → 0 < n → n ≡ 0 → ⊥
-positive n h e = omega arith
-
-nothing : (n : ℕ) → n ≤ 0 → n ≡ 0
-nothing n h = omega arith
+use Rattle.nodes.proofs.primary.PrimaryArm.store.Reads as arm-store-reads
+use Rattle.nodes.proofs.primary.PrimaryRecord.load.Reads as load-reads
+use Rattle.table.proofs.slots.load.Reads as mark-load-reads
+use Rattle.nodes.proofs.weights.disagree.Reads as disagree-reads
+use Rattle.twofold_layout.proofs.levels.deeper.Reads as deeper-reads
 
 abbrev Inv-loop : tie.InvT-loop
 Inv-loop t₀ level capacity start m s fuel base₀ at₀ left₀ t base at left =
-    (length t ≡ length t₀) × (at < 2 ^ 40) × (left ≤ fuel)
+    (length t ≡ length t₀) × (at < 2 ^ 40) × (at + 4 ≤ length t₀)
     × (insertBeneath♯ left capacity (markValue m) s base at t ≡ insertBeneath♯ fuel capacity (markValue m) s base₀ at₀ t₀)
 
 abbrev μ-loop : tie.MeasureT-loop
 μ-loop t₀ level capacity start m s fuel base₀ at₀ left₀ t base at left = left
 
--- src/insert.rt:67:5
 loop-holds : tie.Need-loop-holds Inv-loop μ-loop
 loop-holds c = search needs
 
--- src/insert.rt:68:9
 sub-left : tie.Need-sub-left Inv-loop μ-loop
 sub-left c = search needs
 
--- src/insert.rt:69:13
-at-requires : tie.Need-at-requires Inv-loop μ-loop
-at-requires c κs = search needs
+load-requires : tie.Need-load-requires Inv-loop μ-loop
+load-requires c κs =
+    let at-loop = c .before .before in
+    omega (arith, at-loop .loop .inv .0, at-loop .loop .inv .2)
 
--- src/insert.rt:71:12
-is-leaf-requires : tie.Need-is-leaf-requires Inv-loop μ-loop
-is-leaf-requires c κs = search needs
-
--- src/insert.rt:72:13
-insert-at-leaf-requires : tie.Need-insert-at-leaf-requires Inv-loop μ-loop
-insert-at-leaf-requires c κs = search needs
-
--- src/insert.rt:72:13
-same-length : tie.Need-same-length Inv-loop μ-loop
-same-length c = search needs
-
--- src/insert.rt:72:13
-returns : tie.Need-returns Inv-loop μ-loop
-unfolding mainInsertNode mainInsertArm mainInsertRecord mainWay insertOn
-returns c = rw (← c .before .before .before .before .before .before .before .before .before .before .loop .inv .3, insertBeneath♯-suc _ (positive _ (c .before .before .before .before .before .before .before .before .before .loop-test .taken)), ← c .before .before .before .before .before .before .before .at .ensures, ← c .before .before .before .before .before .is-leaf .ensures, c .before .before .before .before .if1 .taken, ← c .before .before .insert-at-leaf .ensures)
-
--- src/insert.rt:74:13
 slot-requires : tie.Need-slot-requires Inv-loop μ-loop
 slot-requires c κs = search needs
 
--- src/insert.rt:75:13
-at-requires-2 : tie.Need-at-requires-2 Inv-loop μ-loop
-at-requires-2 c κs = search needs
+same-length : tie.Need-same-length Inv-loop μ-loop
+same-length c = search needs
 
--- src/insert.rt:78:12
-disagree-requires : tie.Need-disagree-requires Inv-loop μ-loop
-disagree-requires c κs = search needs
+-- a node of no slot
+returns : tie.Need-returns Inv-loop μ-loop
+unfolding mainInsertNode mainInsertArm
+returns c =
+    let at-slot = c .before in
+    let at-arm = at-slot .before .before in
+    let at-test = at-arm .before .before in
+    let at-loop = at-test .before in
+    rw (
+      ← at-loop .loop .inv .3,
+      insertBeneath♯-suc _ (positive _ (at-test .loop-test .taken)),
+      ← at-arm .load .ensures,
+      ← at-slot .slot .ensures,
+      le-leb _ _ (c .if1 .taken),
+    )
 
--- src/insert.rt:79:13
+is-leaf-requires : tie.Need-is-leaf-requires Inv-loop μ-loop
+is-leaf-requires c κs = search needs
+
+insert-at-leaf-requires : tie.Need-insert-at-leaf-requires Inv-loop μ-loop
+insert-at-leaf-requires c κs =
+    let at-named = c .before .before .before in
+    let at-slot = at-named .before in
+    let at-loop = at-slot .before .before .before .before .before in
+    let at-start = at-loop .before .before in (
+      rw (← at-slot .slot .ensures) (at-named .if1 .left),
+      (
+        at-start .pre .0,
+        at-loop .loop .inv .1,
+        omega (arith, at-loop .loop .inv .0, at-loop .loop .inv .2),
+        omega (arith, at-loop .loop .inv .0, at-start .pre .3),
+      ),
+    )
+
 same-length-2 : tie.Need-same-length-2 Inv-loop μ-loop
 same-length-2 c = search needs
 
--- src/insert.rt:79:13
+-- a leaf
 returns-2 : tie.Need-returns-2 Inv-loop μ-loop
-unfolding mainInsertNode mainInsertArm mainInsertRecord mainWay insertOn
-returns-2 c = rw (← c .before .before .before .before .before .before .before .before .before .before .before .before .before .loop .inv .3, insertBeneath♯-suc _ (positive _ (c .before .before .before .before .before .before .before .before .before .before .before .before .loop-test .taken)), ← c .before .before .before .before .before .before .before .before .before .before .at .ensures, ← c .before .before .before .before .before .before .before .before .is-leaf .ensures, c .before .before .before .before .before .before .before .if1 .left, ← c .before .before .before .before .before .before .slot .ensures, ← c .before .before .before .before .at2 .ensures, ← c .before .disagree .ensures, c .if2 .taken)
+unfolding mainInsertNode mainInsertArm
+returns-2 c =
+    let at-inner = c .before .before .before .before in
+    let at-leaf = at-inner .before in
+    let at-named = at-leaf .before in
+    let at-slot = at-named .before in
+    let at-arm = at-slot .before .before in
+    let at-test = at-arm .before .before in
+    let at-loop = at-test .before in
+    rw (
+      ← at-loop .loop .inv .3,
+      insertBeneath♯-suc _ (positive _ (at-test .loop-test .taken)),
+      ← at-arm .load .ensures,
+      ← at-slot .slot .ensures,
+      lt-leb _ _ (at-named .if1 .left),
+      ← at-leaf .is-leaf .ensures,
+      at-inner .if2 .taken,
+      ← c .before .before .insert-at-leaf .ensures,
+    )
 
--- src/insert.rt:81:31
-mark-at-requires : tie.Need-mark-at-requires Inv-loop μ-loop
-mark-at-requires c κs = search needs
+load-requires-2 : tie.Need-load-requires-2 Inv-loop μ-loop
+load-requires-2 c κs =
+    let at-named = c .before .before .before in
+    let at-loop = at-named .before .before .before .before .before .before in
+    let at-start = at-loop .before .before in
+    omega (arith, at-loop .loop .inv .0, at-start .pre .3, at-named .if1 .left)
 
--- src/insert.rt:81:13
+disagree-requires : tie.Need-disagree-requires Inv-loop μ-loop
+disagree-requires c κs = search needs
+
+same-length-3 : tie.Need-same-length-3 Inv-loop μ-loop
+same-length-3 c = search needs
+
+-- the weights do not add up
+returns-3 : tie.Need-returns-3 Inv-loop μ-loop
+unfolding mainInsertNode mainInsertArm mainInsertRecord
+returns-3 c =
+    let at-agree = c .before in
+    let at-record = at-agree .before .before .before in
+    let at-inner = at-record .before .before in
+    let at-leaf = at-inner .before in
+    let at-named = at-leaf .before in
+    let at-slot = at-named .before in
+    let at-arm = at-slot .before .before in
+    let at-test = at-arm .before .before in
+    let at-loop = at-test .before in
+    rw (
+      ← at-loop .loop .inv .3,
+      insertBeneath♯-suc _ (positive _ (at-test .loop-test .taken)),
+      ← at-arm .load .ensures,
+      ← at-slot .slot .ensures,
+      lt-leb _ _ (at-named .if1 .left),
+      ← at-leaf .is-leaf .ensures,
+      at-inner .if2 .left,
+      ← at-record .load2 .ensures,
+      ← at-agree .disagree .ensures,
+      c .if3 .taken,
+    )
+
+load-requires-3 : tie.Need-load-requires-3 Inv-loop μ-loop
+load-requires-3 c κs =
+    let at-named = c .before .before .before .before .before .before .before .before .before in
+    let at-loop = at-named .before .before .before .before .before .before in
+    let at-start = at-loop .before .before in
+    omega (arith, at-loop .loop .inv .0, at-start .pre .3, at-named .if1 .left)
+
 below-x-requires : tie.Need-below-x-requires Inv-loop μ-loop
 below-x-requires c κs = search needs
 
--- src/insert.rt:82:12
-unsteady-requires : tie.Need-unsteady-requires Inv-loop μ-loop
-unsteady-requires c κs = search needs
+child-requires : tie.Need-child-requires Inv-loop μ-loop
+child-requires c κs = search needs
 
--- src/insert.rt:83:13
+unbalances-requires : tie.Need-unbalances-requires Inv-loop μ-loop
+unbalances-requires c κs = search needs
+
 insert-afresh-requires : tie.Need-insert-afresh-requires Inv-loop μ-loop
-insert-afresh-requires c κs = search (needs, c .before .before .before .before .before .before .before .before .before .before .before .before .before .before .before .before .before .before .before .before .loop .inv)
+insert-afresh-requires c κs =
+    let at-mark = c .before .before .before .before .before in
+    let at-record = at-mark .before .before .before .before .before .before in
+    let at-slot = at-record .before .before .before .before .before in
+    let at-loop = at-slot .before .before .before .before .before in
+    let at-start = at-loop .before .before in (
+      at-start .pre .0,
+      at-loop .loop .inv .1,
+      omega (arith, at-loop .loop .inv .0, at-loop .loop .inv .2),
+      omega (arith, at-loop .loop .inv .0, at-start .pre .3),
+    )
 
--- src/insert.rt:83:13
-same-length-3 : tie.Need-same-length-3 Inv-loop μ-loop
-same-length-3 c = search (needs, c .before .before .before .before .before .before .before .before .before .before .before .before .before .before .before .before .before .before .before .before .before .before .before .loop .inv .0)
+same-length-4 : tie.Need-same-length-4 Inv-loop μ-loop
+same-length-4 c =
+    let at-child = c .before .before .before .before .before .before in
+    let at-agree = at-child .before .before .before .before .before in
+    let at-named = at-agree .before .before .before .before .before .before .before in
+    let at-loop = at-named .before .before .before .before .before .before in
+    search (needs, at-loop .loop .inv .0)
 
--- src/insert.rt:83:13
-returns-3 : tie.Need-returns-3 Inv-loop μ-loop
+-- the node is built afresh
+returns-4 : tie.Need-returns-4 Inv-loop μ-loop
 unfolding mainInsertNode mainInsertArm mainInsertRecord mainWay insertOn
-returns-3 c = rw (← c .before .before .before .before .before .before .before .before .before .before .before .before .before .before .before .before .before .before .before .before .before .before .before .loop .inv .3, insertBeneath♯-suc _ (positive _ (c .before .before .before .before .before .before .before .before .before .before .before .before .before .before .before .before .before .before .before .before .before .before .loop-test .taken)), ← c .before .before .before .before .before .before .before .before .before .before .before .before .before .before .before .before .before .before .before .before .at .ensures, ← c .before .before .before .before .before .before .before .before .before .before .before .before .before .before .before .before .before .before .is-leaf .ensures, c .before .before .before .before .before .before .before .before .before .before .before .before .before .before .before .before .before .if1 .left, ← c .before .before .before .before .before .before .before .before .before .before .before .before .before .before .before .before .slot .ensures, ← c .before .before .before .before .before .before .before .before .before .before .before .before .before .before .at2 .ensures, ← c .before .before .before .before .before .before .before .before .before .before .before .disagree .ensures, c .before .before .before .before .before .before .before .before .before .before .if2 .left, ← c .before .before .before .before .before .before .before .before .mark-at .ensures, ← c .before .before .before .before .before .before .before .below-x .ensures, ← c .before .before .before .before .before .unsteady .ensures, c .before .before .before .before .if3 .taken, ← c .before .before .insert-afresh .ensures)
+returns-4 c =
+    let at-afresh = c .before .before in
+    let at-steady = at-afresh .before .before in
+    let at-unbalances = at-steady .before in
+    let at-below = at-unbalances .before .before in
+    let at-mark = at-below .before in
+    let at-agreed = at-mark .before .before in
+    let at-agree = at-agreed .before in
+    let at-record = at-agree .before .before .before in
+    let at-inner = at-record .before .before in
+    let at-leaf = at-inner .before in
+    let at-named = at-leaf .before in
+    let at-slot = at-named .before in
+    let at-arm = at-slot .before .before in
+    let at-test = at-arm .before .before in
+    let at-loop = at-test .before in
+    rw (
+      ← at-loop .loop .inv .3,
+      insertBeneath♯-suc _ (positive _ (at-test .loop-test .taken)),
+      ← at-arm .load .ensures,
+      ← at-slot .slot .ensures,
+      lt-leb _ _ (at-named .if1 .left),
+      ← at-leaf .is-leaf .ensures,
+      at-inner .if2 .left,
+      ← at-record .load2 .ensures,
+      ← at-agree .disagree .ensures,
+      at-agreed .if3 .left,
+      ← at-mark .load3 .ensures,
+      ← at-below .below-x .ensures,
+      ← at-unbalances .unbalances .ensures,
+      at-steady .if4 .taken,
+      ← at-afresh .insert-afresh .ensures,
+    )
 
--- src/insert.rt:85:32
 grown-requires : tie.Need-grown-requires Inv-loop μ-loop
 grown-requires c κs = search needs
 
--- src/insert.rt:85:9
-put-requires : tie.Need-put-requires Inv-loop μ-loop
-put-requires c κs = search (needs, c .before .before .before .before .before .before .before .before .before .before .before .before .before .before .before .before .before .before .before .before .before .loop .inv)
+store-requires : tie.Need-store-requires Inv-loop μ-loop
+store-requires c κs =
+    let at-mark = c .before .before .before .before .before .before in
+    let at-record = at-mark .before .before .before .before .before .before in
+    let at-slot = at-record .before .before .before .before .before in
+    let at-loop = at-slot .before .before .before .before .before in
+    omega (arith, at-loop .loop .inv .0, at-loop .loop .inv .2)
 
--- src/insert.rt:86:13
 insert-requires : tie.Need-insert-requires Inv-loop μ-loop
-insert-requires c κs = search needs
+insert-requires c κs =
+    let at-put = c .before .before .before in
+    let at-agreed = at-put .before .before .before .before .before .before .before .before .before in
+    let at-named = at-agreed .before .before .before .before .before .before .before .before in
+    let at-loop = at-named .before .before .before .before .before .before in
+    let at-start = at-loop .before .before in
+    (at-start .pre .0, at-named .if1 .left, search (needs, at-loop .loop .inv .0, at-put .store, at-start .pre .3))
 
--- src/insert.rt:88:13
-same-length-4 : tie.Need-same-length-4 Inv-loop μ-loop
-same-length-4 c = search (needs, c .before .before .before .before .before .before .before .before .before .before .before .before .before .before .before .before .before .before .before .before .before .before .before .before .before .before .before .before .before .loop .inv .0)
+same-length-5 : tie.Need-same-length-5 Inv-loop μ-loop
+same-length-5 c =
+    let at-handed = c .before .before .before in
+    let at-steady = at-handed .before .before .before .before .before .before .before in
+    let at-agree = at-steady .before .before .before .before .before .before .before in
+    let at-named = at-agree .before .before .before .before .before .before .before in
+    let at-loop = at-named .before .before .before .before .before .before in
+    search (needs, at-loop .loop .inv .0, at-handed .insert)
 
--- src/insert.rt:88:13
-returns-4 : tie.Need-returns-4 Inv-loop μ-loop
+-- the auxiliary tree is damaged
+returns-5 : tie.Need-returns-5 Inv-loop μ-loop
 unfolding mainInsertNode mainInsertArm mainInsertRecord mainWay insertOn
-returns-4 c = rw (← c .before .before .before .before .before .before .before .before .before .before .before .before .before .before .before .before .before .before .before .before .before .before .before .before .before .before .before .before .before .loop .inv .3, insertBeneath♯-suc _ (positive _ (c .before .before .before .before .before .before .before .before .before .before .before .before .before .before .before .before .before .before .before .before .before .before .before .before .before .before .before .before .loop-test .taken)), ← c .before .before .before .before .before .before .before .before .before .before .before .before .before .before .before .before .before .before .before .before .before .before .before .before .before .before .at .ensures, ← c .before .before .before .before .before .before .before .before .before .before .before .before .before .before .before .before .before .before .before .before .before .before .before .before .is-leaf .ensures, c .before .before .before .before .before .before .before .before .before .before .before .before .before .before .before .before .before .before .before .before .before .before .before .if1 .left, ← c .before .before .before .before .before .before .before .before .before .before .before .before .before .before .before .before .before .before .before .before .before .before .slot .ensures, ← c .before .before .before .before .before .before .before .before .before .before .before .before .before .before .before .before .before .before .before .before .at2 .ensures, ← c .before .before .before .before .before .before .before .before .before .before .before .before .before .before .before .before .before .disagree .ensures, c .before .before .before .before .before .before .before .before .before .before .before .before .before .before .before .before .if2 .left, ← c .before .before .before .before .before .before .before .before .before .before .before .before .before .before .mark-at .ensures, ← c .before .before .before .before .before .before .before .before .before .before .before .before .before .below-x .ensures, ← c .before .before .before .before .before .before .before .before .before .before .before .unsteady .ensures, c .before .before .before .before .before .before .before .before .before .before .if3 .left, ← c .before .before .before .before .before .before .before .before .grown .ensures, ← c .before .before .before .before .before .before .before .put .ensures, ← c .before .before .before .insert .ensures, eq-eqb _ _ (c .if4 .taken))
+returns-5 c =
+    let at-handed = c .before .before .before in
+    let at-put = at-handed .before .before .before .before in
+    let at-grown = at-put .before in
+    let at-steady = at-grown .before .before in
+    let at-unbalances = at-steady .before in
+    let at-below = at-unbalances .before .before in
+    let at-mark = at-below .before in
+    let at-agreed = at-mark .before .before in
+    let at-agree = at-agreed .before in
+    let at-record = at-agree .before .before .before in
+    let at-inner = at-record .before .before in
+    let at-leaf = at-inner .before in
+    let at-named = at-leaf .before in
+    let at-slot = at-named .before in
+    let at-arm = at-slot .before .before in
+    let at-test = at-arm .before .before in
+    let at-loop = at-test .before in
+    rw (
+      ← at-loop .loop .inv .3,
+      insertBeneath♯-suc _ (positive _ (at-test .loop-test .taken)),
+      ← at-arm .load .ensures,
+      ← at-slot .slot .ensures,
+      lt-leb _ _ (at-named .if1 .left),
+      ← at-leaf .is-leaf .ensures,
+      at-inner .if2 .left,
+      ← at-record .load2 .ensures,
+      ← at-agree .disagree .ensures,
+      at-agreed .if3 .left,
+      ← at-mark .load3 .ensures,
+      ← at-below .below-x .ensures,
+      ← at-unbalances .unbalances .ensures,
+      at-steady .if4 .left,
+      ← at-grown .grown .ensures,
+      ← at-put .store .ensures,
+      ← at-handed .insert .ensures,
+      eq-eqb _ _ (c .if5 .taken),
+    )
 
--- src/insert.rt:90:9
 deeper-requires : tie.Need-deeper-requires Inv-loop μ-loop
 deeper-requires c κs = search needs
 
--- src/insert.rt:91:9
-child-place-requires : tie.Need-child-place-requires Inv-loop μ-loop
-child-place-requires c κs = search needs
-
--- src/insert.rt:67:5
 loop-less : tie.Need-loop-less Inv-loop μ-loop
-loop-less c = omega (arith, c .before .before .before .before .before .before .before .before .before .before .before .before .before .before .before .before .before .before .before .before .before .before .before .before .before .before .before .before .before .loop-test .taken)
+loop-less c =
+    let at-handed = c .before .before .before .before in
+    let at-steady = at-handed .before .before .before .before .before .before .before in
+    let at-mark = at-steady .before .before .before .before in
+    let at-inner = at-mark .before .before .before .before .before .before .before .before in
+    let at-test = at-inner .before .before .before .before .before .before .before in
+    omega (arith, at-test .loop-test .taken)
 
--- src/insert.rt:67:5
+-- on to the child, a level deeper
 loop-again : tie.Need-loop-again Inv-loop μ-loop
 unfolding mainInsertNode mainInsertArm mainInsertRecord mainWay insertOn
-loop-again c = (search (needs, c .before .before .before .before .before .before .before .before .before .before .before .before .before .before .before .before .before .before .before .before .before .before .before .before .before .before .before .before .before .before .loop .inv .0), c .before .before .before .before .before .before .before .before .before .before .before .before .before .child-place .ensures .1, omega (arith, c .before .before .before .before .before .before .before .before .before .before .before .before .before .before .before .before .before .before .before .before .before .before .before .before .before .before .before .before .before .before .loop .inv .2), rw (← c .before .before .before .before .before .before .before .before .before .before .before .before .before .before .before .before .before .before .before .before .before .before .before .before .before .before .before .before .before .before .loop .inv .3, insertBeneath♯-suc _ (positive _ (c .before .before .before .before .before .before .before .before .before .before .before .before .before .before .before .before .before .before .before .before .before .before .before .before .before .before .before .before .before .loop-test .taken)), ← c .before .before .before .before .before .before .before .before .before .before .before .before .before .before .before .before .before .before .before .before .before .before .before .before .before .before .before .at .ensures, ← c .before .before .before .before .before .before .before .before .before .before .before .before .before .before .before .before .before .before .before .before .before .before .before .before .before .is-leaf .ensures, c .before .before .before .before .before .before .before .before .before .before .before .before .before .before .before .before .before .before .before .before .before .before .before .before .if1 .left, ← c .before .before .before .before .before .before .before .before .before .before .before .before .before .before .before .before .before .before .before .before .before .before .before .slot .ensures, ← c .before .before .before .before .before .before .before .before .before .before .before .before .before .before .before .before .before .before .before .before .before .at2 .ensures, ← c .before .before .before .before .before .before .before .before .before .before .before .before .before .before .before .before .before .before .disagree .ensures, c .before .before .before .before .before .before .before .before .before .before .before .before .before .before .before .before .before .if2 .left, ← c .before .before .before .before .before .before .before .before .before .before .before .before .before .before .before .mark-at .ensures, ← c .before .before .before .before .before .before .before .before .before .before .before .before .before .before .below-x .ensures, ← c .before .before .before .before .before .before .before .before .before .before .before .before .unsteady .ensures, c .before .before .before .before .before .before .before .before .before .before .before .if3 .left, ← c .before .before .before .before .before .before .before .before .before .grown .ensures, ← c .before .before .before .before .before .before .before .before .put .ensures, ← c .before .before .before .before .insert .ensures, ne-eqb _ _ (c .before .if4 .left), ← c .deeper .ensures, ← c .before .before .before .before .before .before .before .before .before .before .before .before .before .child-place .ensures .0))
+loop-again c =
+    let at-sound = c .before in
+    let at-handed = at-sound .before .before .before in
+    let at-put = at-handed .before .before .before .before in
+    let at-grown = at-put .before in
+    let at-steady = at-grown .before .before in
+    let at-unbalances = at-steady .before in
+    let at-child = at-unbalances .before in
+    let at-below = at-child .before in
+    let at-mark = at-below .before in
+    let at-agreed = at-mark .before .before in
+    let at-agree = at-agreed .before in
+    let at-record = at-agree .before .before .before in
+    let at-inner = at-record .before .before in
+    let at-leaf = at-inner .before in
+    let at-named = at-leaf .before in
+    let at-slot = at-named .before in
+    let at-arm = at-slot .before .before in
+    let at-test = at-arm .before .before in
+    let at-loop = at-test .before in
+    let at-start = at-loop .before .before in (
+      search (needs, at-loop .loop .inv .0, at-put .store, at-handed .insert),
+      at-child .child .ensures .1,
+      child-there _ _ _ _ _ (at-child .child .ensures .0) (at-named .if1 .left) (at-start .pre .3),
+      rw (
+        ← at-loop .loop .inv .3,
+        insertBeneath♯-suc _ (positive _ (at-test .loop-test .taken)),
+        ← at-arm .load .ensures,
+        ← at-slot .slot .ensures,
+        lt-leb _ _ (at-named .if1 .left),
+        ← at-leaf .is-leaf .ensures,
+        at-inner .if2 .left,
+        ← at-record .load2 .ensures,
+        ← at-agree .disagree .ensures,
+        at-agreed .if3 .left,
+        ← at-mark .load3 .ensures,
+        ← at-below .below-x .ensures,
+        ← at-unbalances .unbalances .ensures,
+        at-steady .if4 .left,
+        ← at-grown .grown .ensures,
+        ← at-put .store .ensures,
+        ← at-handed .insert .ensures,
+        ne-eqb _ _ (at-sound .if5 .left),
+        ← c .deeper .ensures,
+        ← at-child .child .ensures .0,
+      ),
+    )
 
--- src/insert.rt:52:1
-same-length-5 : tie.Need-same-length-5 Inv-loop μ-loop
-same-length-5 c = search needs
+same-length-6 : tie.Need-same-length-6 Inv-loop μ-loop
+same-length-6 c = search needs
 
--- src/insert.rt:52:1
-returns-5 : tie.Need-returns-5 Inv-loop μ-loop
-unfolding mainInsertNode mainInsertArm mainInsertRecord mainWay insertOn
-returns-5 c = rw (← c .before .loop .inv .3, insertBeneath♯-zero _ (nothing _ (c .loop-test .left)))
+-- the levels are used up
+returns-6 : tie.Need-returns-6 Inv-loop μ-loop
+returns-6 c = rw (← c .before .loop .inv .3, insertBeneath♯-zero _ (nothing _ (c .loop-test .left)))
 
 pub insert-beneath-spec : {M : Type 1} → statement M
 insert-beneath-spec =
@@ -170,30 +375,32 @@ insert-beneath-spec =
     μ-loop
     loop-holds
     sub-left
-    at-requires
-    is-leaf-requires
-    insert-at-leaf-requires
+    load-requires
+    slot-requires
     same-length
     returns
-    slot-requires
-    at-requires-2
-    disagree-requires
+    is-leaf-requires
+    insert-at-leaf-requires
     same-length-2
     returns-2
-    mark-at-requires
-    below-x-requires
-    child-place-requires
-    unsteady-requires
-    insert-afresh-requires
+    load-requires-2
+    disagree-requires
     same-length-3
     returns-3
-    grown-requires
-    put-requires
-    insert-requires
+    load-requires-3
+    below-x-requires
+    child-requires
+    unbalances-requires
+    insert-afresh-requires
     same-length-4
     returns-4
+    grown-requires
+    store-requires
+    insert-requires
+    same-length-5
+    returns-5
     deeper-requires
     loop-less
     loop-again
-    same-length-5
-    returns-5)
+    same-length-6
+    returns-6)

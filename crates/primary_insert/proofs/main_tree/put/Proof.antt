@@ -1,130 +1,235 @@
 use Rattle.primary_insert.proofs.main_tree.put.Statement.{statement}
 use native.Mathlib.Omega.{arith}
-use Prim.Native.Nat.{ℕ, _<_, _≤_, _^_}
+use Prim.Native.Nat.{_+_, _<_, _≤_, _^_}
 use mathlib.Core.Path.{_≡_}
 use mathlib.Core.Bool.{false}
 use lib.ListN.{length}
 use Rattle.model.specs.Sheet.{alongX}
 use Rattle.geometry.specs.Values.{markValue}
 use Rattle.table.specs.Layout.{mainPlace}
-use Rattle.secondary_update.specs.Insert.{insertArm, insertNode, insertRecord, insertWay, insert♯, insert♯-suc, insert♯-zero, unsteady♯}
+use Rattle.table.specs.Limits.{deepest}
+use Rattle.secondary_update.specs.Insert.{insertArm, insertNode, insertRecord, insertWay, insert♯, insert♯-suc, insert♯-zero}
+use Rattle.nodes.specs.Weights.{unbalances}
 use borrow.Author.Needs.{needs}
+use borrow.Author.Tests.{le-leb, lt-leb}
+use Rattle.table.proofs.Fuel.{positive, nothing}
+use Rattle.primary_insert.proofs.Steps.{child-there}
 use Rattle.primary_insert.proofs.main_tree.put.Tie as tie
 use Rattle.primary_insert.proofs.main_tree.put.Reads as reads
 use Rattle.primary_insert.proofs.main_tree.put.Lts as lts
 use Rattle.geometry.proofs.Mark.below_x.Reads as below-x-reads
-use Rattle.primary_insert.proofs.main_tree.child_place.Reads as child-place-reads
+use Rattle.nodes.proofs.primary.PrimaryRecord.child.Reads as child-reads
 use Rattle.primary_insert.proofs.main_tree.split.Reads as split-reads
 use Rattle.nodes.proofs.primary.Primary.is_leaf.Reads as is-leaf-reads
 use Rattle.nodes.proofs.primary.Primary.slot.Reads as slot-reads
-use Rattle.nodes.proofs.primary.PrimaryArm.at.Reads as primary-PrimaryArm-at-reads
+use Rattle.nodes.proofs.primary.PrimaryArm.load.Reads as arm-load-reads
 use Rattle.nodes.proofs.primary.PrimaryArm.grown.Reads as grown-reads
-use Rattle.nodes.proofs.primary.PrimaryArm.put.Reads as put-reads
-use Rattle.nodes.proofs.primary.PrimaryRecord.at.Reads as primary-PrimaryRecord-at-reads
-use Rattle.table.proofs.slots.mark_at.Reads as mark-at-reads
-use Rattle.table.proofs.weights.disagree.Reads as disagree-reads
-
-positive : (n : ℕ) → 0 < n → n ≡ 0 → ⊥
-positive n h e = omega arith
-
-nothing : (n : ℕ) → n ≤ 0 → n ≡ 0
-nothing n h = omega arith
+use Rattle.nodes.proofs.primary.PrimaryArm.store.Reads as arm-store-reads
+use Rattle.nodes.proofs.primary.PrimaryRecord.load.Reads as load-reads
+use Rattle.table.proofs.slots.load.Reads as mark-load-reads
+use Rattle.nodes.proofs.weights.disagree.Reads as disagree-reads
 
 abbrev Inv-loop : tie.InvT-loop
-Inv-loop t₀ start m s fuel at₀ left₀ t at left =
-    (length t ≡ length t₀) × (at < 2 ^ 40) × (left ≤ fuel)
-    × (insert♯ alongX left mainPlace (markValue m) s false at t ≡ insert♯ alongX fuel mainPlace (markValue m) s false at₀ t₀)
+Inv-loop t₀ capacity start m s at₀ left₀ t at left =
+    (length t ≡ length t₀) × (at < 2 ^ 40) × (at + 4 ≤ length t₀)
+    × (insert♯ alongX left capacity mainPlace (markValue m) s false at t ≡ insert♯ alongX deepest capacity mainPlace (markValue m) s false at₀ t₀)
 
 abbrev μ-loop : tie.MeasureT-loop
-μ-loop t₀ start m s fuel at₀ left₀ t at left = left
+μ-loop t₀ capacity start m s at₀ left₀ t at left = left
 
--- src/main_tree.rt:59:5
 loop-holds : tie.Need-loop-holds Inv-loop μ-loop
 loop-holds c = search needs
 
--- src/main_tree.rt:60:9
 sub-left : tie.Need-sub-left Inv-loop μ-loop
 sub-left c = search needs
 
--- src/main_tree.rt:61:13
-at-requires : tie.Need-at-requires Inv-loop μ-loop
-at-requires c κs = search needs
+load-requires : tie.Need-load-requires Inv-loop μ-loop
+load-requires c κs =
+    let at-loop = c .before .before in
+    omega (arith, at-loop .loop .inv .0, at-loop .loop .inv .2)
 
--- src/main_tree.rt:63:12
-is-leaf-requires : tie.Need-is-leaf-requires Inv-loop μ-loop
-is-leaf-requires c κs = search needs
-
--- src/main_tree.rt:64:13
-split-requires : tie.Need-split-requires Inv-loop μ-loop
-split-requires c κs = search needs
-
--- src/main_tree.rt:65:13
-same-length : tie.Need-same-length Inv-loop μ-loop
-same-length c = search needs
-
--- src/main_tree.rt:65:13
-returns : tie.Need-returns Inv-loop μ-loop
-unfolding insertNode insertArm insertRecord insertWay
-returns c = rw (← c .before .before .before .before .before .before .before .before .before .before .loop .inv .3, insert♯-suc _ (positive _ (c .before .before .before .before .before .before .before .before .before .loop-test .taken)), ← c .before .before .before .before .before .before .before .at .ensures, ← c .before .before .before .before .before .is-leaf .ensures, c .before .before .before .before .if1 .taken, ← c .before .before .split .ensures .1)
-
--- src/main_tree.rt:67:13
 slot-requires : tie.Need-slot-requires Inv-loop μ-loop
 slot-requires c κs = search needs
 
--- src/main_tree.rt:68:13
-at-requires-2 : tie.Need-at-requires-2 Inv-loop μ-loop
-at-requires-2 c κs = search needs
+same-length : tie.Need-same-length Inv-loop μ-loop
+same-length c = search needs
 
--- src/main_tree.rt:71:12
-disagree-requires : tie.Need-disagree-requires Inv-loop μ-loop
-disagree-requires c κs = search needs
+-- a node of no slot
+returns : tie.Need-returns Inv-loop μ-loop
+unfolding insertNode insertArm
+returns c =
+    let at-slot = c .before in
+    let at-arm = at-slot .before .before in
+    let at-test = at-arm .before .before in
+    let at-loop = at-test .before in
+    rw (
+      ← at-loop .loop .inv .3,
+      insert♯-suc _ (positive _ (at-test .loop-test .taken)),
+      ← at-arm .load .ensures,
+      ← at-slot .slot .ensures,
+      le-leb _ _ (c .if1 .taken),
+    )
 
--- src/main_tree.rt:72:13
+is-leaf-requires : tie.Need-is-leaf-requires Inv-loop μ-loop
+is-leaf-requires c κs = search needs
+
+split-requires : tie.Need-split-requires Inv-loop μ-loop
+split-requires c κs =
+    let at-named = c .before .before .before in
+    let at-slot = at-named .before in
+    let at-loop = at-slot .before .before .before .before .before in
+    let at-start = at-loop .before .before in (
+      rw (← at-slot .slot .ensures) (at-named .if1 .left),
+      (
+        at-start .pre .0,
+        at-loop .loop .inv .1,
+        omega (arith, at-loop .loop .inv .0, at-loop .loop .inv .2),
+        omega (arith, at-loop .loop .inv .0, at-start .pre .3),
+      ),
+    )
+
 same-length-2 : tie.Need-same-length-2 Inv-loop μ-loop
 same-length-2 c = search needs
 
--- src/main_tree.rt:72:13
+-- a leaf
 returns-2 : tie.Need-returns-2 Inv-loop μ-loop
-unfolding insertNode insertArm insertRecord insertWay
-returns-2 c = rw (← c .before .before .before .before .before .before .before .before .before .before .before .before .before .loop .inv .3, insert♯-suc _ (positive _ (c .before .before .before .before .before .before .before .before .before .before .before .before .loop-test .taken)), ← c .before .before .before .before .before .before .before .before .before .before .at .ensures, ← c .before .before .before .before .before .before .before .before .is-leaf .ensures, c .before .before .before .before .before .before .before .if1 .left, ← c .before .before .before .before .before .before .slot .ensures, ← c .before .before .before .before .at2 .ensures, ← c .before .disagree .ensures, c .if2 .taken)
+unfolding insertNode insertArm
+returns-2 c =
+    let at-inner = c .before .before .before .before in
+    let at-leaf = at-inner .before in
+    let at-named = at-leaf .before in
+    let at-slot = at-named .before in
+    let at-arm = at-slot .before .before in
+    let at-test = at-arm .before .before in
+    let at-loop = at-test .before in
+    rw (
+      ← at-loop .loop .inv .3,
+      insert♯-suc _ (positive _ (at-test .loop-test .taken)),
+      ← at-arm .load .ensures,
+      ← at-slot .slot .ensures,
+      lt-leb _ _ (at-named .if1 .left),
+      ← at-leaf .is-leaf .ensures,
+      at-inner .if2 .taken,
+      ← c .before .before .split .ensures .1 .1,
+    )
 
--- src/main_tree.rt:74:31
-mark-at-requires : tie.Need-mark-at-requires Inv-loop μ-loop
-mark-at-requires c κs = search needs
+load-requires-2 : tie.Need-load-requires-2 Inv-loop μ-loop
+load-requires-2 c κs =
+    let at-named = c .before .before .before in
+    let at-loop = at-named .before .before .before .before .before .before in
+    let at-start = at-loop .before .before in
+    omega (arith, at-loop .loop .inv .0, at-start .pre .3, at-named .if1 .left)
 
--- src/main_tree.rt:74:13
-below-x-requires : tie.Need-below-x-requires Inv-loop μ-loop
-below-x-requires c κs = search needs
+disagree-requires : tie.Need-disagree-requires Inv-loop μ-loop
+disagree-requires c κs = search needs
 
--- src/main_tree.rt:75:32
-grown-requires : tie.Need-grown-requires Inv-loop μ-loop
-grown-requires c κs = search needs
-
--- src/main_tree.rt:75:9
-put-requires : tie.Need-put-requires Inv-loop μ-loop
-put-requires c κs = search (needs, c .before .before .before .before .before .before .before .before .before .before .before .before .before .before .before .before .before .before .loop .inv)
-
--- src/main_tree.rt:76:9
-child-place-requires : tie.Need-child-place-requires Inv-loop μ-loop
-child-place-requires c κs = search needs
-
--- src/main_tree.rt:59:5
-loop-less : tie.Need-loop-less Inv-loop μ-loop
-loop-less c = omega (arith, c .before .before .before .before .before .before .before .before .before .before .before .before .before .before .before .before .before .before .before .before .before .loop-test .taken)
-
--- src/main_tree.rt:59:5
-loop-again : tie.Need-loop-again Inv-loop μ-loop
-unfolding insertNode insertArm insertRecord insertWay unsteady♯
-loop-again c = (search (needs, c .before .before .before .before .before .before .before .before .before .before .before .before .before .before .before .before .before .before .before .before .before .before .loop .inv .0), c .child-place .ensures .1, omega (arith, c .before .before .before .before .before .before .before .before .before .before .before .before .before .before .before .before .before .before .before .before .before .before .loop .inv .2), rw (← c .before .before .before .before .before .before .before .before .before .before .before .before .before .before .before .before .before .before .before .before .before .before .loop .inv .3, insert♯-suc _ (positive _ (c .before .before .before .before .before .before .before .before .before .before .before .before .before .before .before .before .before .before .before .before .before .loop-test .taken)), ← c .before .before .before .before .before .before .before .before .before .before .before .before .before .before .before .before .before .before .before .at .ensures, ← c .before .before .before .before .before .before .before .before .before .before .before .before .before .before .before .before .before .is-leaf .ensures, c .before .before .before .before .before .before .before .before .before .before .before .before .before .before .before .before .if1 .left, ← c .before .before .before .before .before .before .before .before .before .before .before .before .before .before .before .slot .ensures, ← c .before .before .before .before .before .before .before .before .before .before .before .before .before .at2 .ensures, ← c .before .before .before .before .before .before .before .before .before .before .disagree .ensures, c .before .before .before .before .before .before .before .before .before .if2 .left, ← c .before .before .before .before .before .before .before .mark-at .ensures, ← c .before .before .before .before .before .before .below-x .ensures, ← c .before .before .before .before .grown .ensures, ← c .before .before .before .put .ensures, ← c .child-place .ensures .0))
-
--- src/main_tree.rt:53:1
 same-length-3 : tie.Need-same-length-3 Inv-loop μ-loop
 same-length-3 c = search needs
 
--- src/main_tree.rt:53:1
+-- the weights do not add up
 returns-3 : tie.Need-returns-3 Inv-loop μ-loop
-unfolding insertNode insertArm insertRecord insertWay
-returns-3 c = rw (← c .before .loop .inv .3, insert♯-zero _ (nothing _ (c .loop-test .left)))
+unfolding insertNode insertArm insertRecord
+returns-3 c =
+    let at-agree = c .before in
+    let at-record = at-agree .before .before .before in
+    let at-inner = at-record .before .before in
+    let at-leaf = at-inner .before in
+    let at-named = at-leaf .before in
+    let at-slot = at-named .before in
+    let at-arm = at-slot .before .before in
+    let at-test = at-arm .before .before in
+    let at-loop = at-test .before in
+    rw (
+      ← at-loop .loop .inv .3,
+      insert♯-suc _ (positive _ (at-test .loop-test .taken)),
+      ← at-arm .load .ensures,
+      ← at-slot .slot .ensures,
+      lt-leb _ _ (at-named .if1 .left),
+      ← at-leaf .is-leaf .ensures,
+      at-inner .if2 .left,
+      ← at-record .load2 .ensures,
+      ← at-agree .disagree .ensures,
+      c .if3 .taken,
+    )
+
+load-requires-3 : tie.Need-load-requires-3 Inv-loop μ-loop
+load-requires-3 c κs =
+    let at-named = c .before .before .before .before .before .before .before .before .before in
+    let at-loop = at-named .before .before .before .before .before .before in
+    let at-start = at-loop .before .before in
+    omega (arith, at-loop .loop .inv .0, at-start .pre .3, at-named .if1 .left)
+
+below-x-requires : tie.Need-below-x-requires Inv-loop μ-loop
+below-x-requires c κs = search needs
+
+grown-requires : tie.Need-grown-requires Inv-loop μ-loop
+grown-requires c κs = search needs
+
+store-requires : tie.Need-store-requires Inv-loop μ-loop
+store-requires c κs =
+    let at-record = c .before .before .before .before .before .before .before .before .before in
+    let at-slot = at-record .before .before .before .before .before in
+    let at-loop = at-slot .before .before .before .before .before in
+    omega (arith, at-loop .loop .inv .0, at-loop .loop .inv .2)
+
+child-requires : tie.Need-child-requires Inv-loop μ-loop
+child-requires c κs = search needs
+
+loop-less : tie.Need-loop-less Inv-loop μ-loop
+loop-less c =
+    let at-below = c .before .before .before .before .before .before in
+    let at-agree = at-below .before .before .before .before in
+    let at-leaf = at-agree .before .before .before .before .before .before in
+    let at-test = at-leaf .before .before .before .before .before .before in
+    omega (arith, at-test .loop-test .taken)
+
+-- on to the child
+loop-again : tie.Need-loop-again Inv-loop μ-loop
+unfolding insertNode insertArm insertRecord insertWay unbalances
+loop-again c =
+    let at-put = c .before .before .before in
+    let at-grown = at-put .before in
+    let at-below = at-grown .before .before in
+    let at-mark = at-below .before in
+    let at-agreed = at-mark .before .before in
+    let at-agree = at-agreed .before in
+    let at-record = at-agree .before .before .before in
+    let at-inner = at-record .before .before in
+    let at-leaf = at-inner .before in
+    let at-named = at-leaf .before in
+    let at-slot = at-named .before in
+    let at-arm = at-slot .before .before in
+    let at-test = at-arm .before .before in
+    let at-loop = at-test .before in
+    let at-start = at-loop .before .before in (
+      search (needs, at-loop .loop .inv .0, at-put .store),
+      c .child .ensures .1,
+      child-there _ _ _ _ _ (c .child .ensures .0) (at-named .if1 .left) (at-start .pre .3),
+      rw (
+        ← at-loop .loop .inv .3,
+        insert♯-suc _ (positive _ (at-test .loop-test .taken)),
+        ← at-arm .load .ensures,
+        ← at-slot .slot .ensures,
+        lt-leb _ _ (at-named .if1 .left),
+        ← at-leaf .is-leaf .ensures,
+        at-inner .if2 .left,
+        ← at-record .load2 .ensures,
+        ← at-agree .disagree .ensures,
+        at-agreed .if3 .left,
+        ← at-mark .load3 .ensures,
+        ← at-below .below-x .ensures,
+        ← at-grown .grown .ensures,
+        ← at-put .store .ensures,
+        ← c .child .ensures .0,
+      ),
+    )
+
+same-length-4 : tie.Need-same-length-4 Inv-loop μ-loop
+same-length-4 c = search needs
+
+-- the levels are used up
+returns-4 : tie.Need-returns-4 Inv-loop μ-loop
+returns-4 c = rw (← c .before .loop .inv .3, insert♯-zero _ (nothing _ (c .loop-test .left)))
 
 pub put-spec : {M : Type 1} → statement M
 put-spec =
@@ -134,22 +239,24 @@ put-spec =
     μ-loop
     loop-holds
     sub-left
-    at-requires
-    is-leaf-requires
-    split-requires
+    load-requires
+    slot-requires
     same-length
     returns
-    slot-requires
-    at-requires-2
-    disagree-requires
+    is-leaf-requires
+    split-requires
     same-length-2
     returns-2
-    mark-at-requires
+    load-requires-2
+    disagree-requires
+    same-length-3
+    returns-3
+    load-requires-3
     below-x-requires
     grown-requires
-    put-requires
-    child-place-requires
+    store-requires
+    child-requires
     loop-less
     loop-again
-    same-length-3
-    returns-3)
+    same-length-4
+    returns-4)

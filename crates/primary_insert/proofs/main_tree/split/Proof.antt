@@ -1,4 +1,5 @@
 use borrow.Author.Needs.{needs}
+use native.Mathlib.Omega.{arith}
 use Rattle.primary_insert.proofs.main_tree.split.Statement.{statement}
 use Rattle.secondary_update.specs.Insert.{nodeAt, split♯}
 use Rattle.primary_insert.specs.Insert.{splitName}
@@ -9,67 +10,117 @@ use Rattle.geometry.proofs.Mark.below_x.Reads as below-x-reads
 use Rattle.nodes.proofs.primary.Primary.slot.Reads as slot-reads
 use Rattle.nodes.proofs.primary.PrimaryArm.leaf.Reads as leaf-reads
 use Rattle.nodes.proofs.primary.PrimaryArm.over.Reads as over-reads
-use Rattle.nodes.proofs.primary.PrimaryArm.put.Reads as primary-PrimaryArm-put-reads
-use Rattle.nodes.proofs.primary.PrimaryRecord.put.Reads as primary-PrimaryRecord-put-reads
-use Rattle.table.proofs.slots.mark_at.Reads as mark-at-reads
+use Rattle.nodes.proofs.primary.PrimaryArm.store.Reads as arm-store-reads
+use Rattle.nodes.proofs.primary.PrimaryRecord.store.Reads as record-store-reads
+use Rattle.table.proofs.slots.load.Reads as mark-load-reads
 
--- src/main_tree.rt:39:9
 leaf-requires : tie.Need-leaf-requires
 leaf-requires c κs = search needs
 
--- src/main_tree.rt:41:9
 slot-requires : tie.Need-slot-requires
 slot-requires c κs = search needs
 
--- src/main_tree.rt:42:18
-mark-at-requires : tie.Need-mark-at-requires
-mark-at-requires c κs = search needs
+load-requires : tie.Need-load-requires
+load-requires c κs =
+    let at-slot = c .before in
+    let at-start = at-slot .before .before .before .before in
+    omega (arith, at-slot .slot .ensures, at-start .pre .0, at-start .pre .1 .3)
 
--- src/main_tree.rt:42:8
 below-x-requires : tie.Need-below-x-requires
 below-x-requires c κs = search needs
 
--- src/main_tree.rt:43:9
-put-requires : tie.Need-put-requires
-put-requires c κs = search needs
+store-requires : tie.Need-store-requires
+store-requires c κs =
+    let at-slot = c .before .before .before .before .before in
+    let at-start = at-slot .before .before .before .before in
+    omega (arith, at-slot .slot .ensures, at-start .pre .0, at-start .pre .1 .3)
 
--- src/main_tree.rt:44:32
 over-requires : tie.Need-over-requires
 over-requires c κs = search needs
 
--- src/main_tree.rt:44:9
-put-requires-2 : tie.Need-put-requires-2
-put-requires-2 c κs = search needs
+store-requires-2 : tie.Need-store-requires-2
+store-requires-2 c κs =
+    let at-record = c .before .before .before .before in
+    let at-slot = at-record .before .before .before .before .before .before in
+    let at-start = at-slot .before .before .before .before in
+    search (needs, at-start .pre .1 .2, at-record .store)
 
--- src/main_tree.rt:45:9
 same-length : tie.Need-same-length
 same-length c = search needs
 
--- src/main_tree.rt:45:9
 returns : tie.Need-returns
 unfolding splitName split♯ nodeAt
-returns c = (rw (← c .before .before .before .before .before .before .before .before .before .before .before .before .before .slot .ensures, ← c .before .before .before .before .before .before .before .before .before .before .before .mark-at .ensures, ← c .before .before .before .before .before .before .before .before .before .before .below-x .ensures, c .before .before .before .before .before .before .before .before .before .if1 .taken), rw (← c .before .before .before .before .before .before .before .before .before .before .before .before .before .before .before .leaf .ensures, ← c .before .before .before .before .before .before .before .before .before .before .before .before .before .slot .ensures, ← c .before .before .before .before .before .before .before .before .before .before .before .mark-at .ensures, ← c .before .before .before .before .before .before .before .before .before .before .below-x .ensures, c .before .before .before .before .before .before .before .before .before .if1 .taken, ← c .before .before .before .before .before .before .before .put .ensures, ← c .before .before .before .over .ensures, ← c .before .before .put2 .ensures))
+returns c =
+    let at-put = c .before .before in
+    let at-over = at-put .before in
+    let at-record = at-over .before .before .before .before in
+    let at-side = at-record .before .before in
+    let at-below = at-side .before in
+    let at-mark = at-below .before in
+    let at-slot = at-mark .before .before in
+    let at-leaf = at-slot .before .before in
+    let at-start = at-leaf .before .before in (
+      rw (← at-slot .slot .ensures, ← at-mark .load .ensures, ← at-below .below-x .ensures, at-side .if1 .taken),
+      (
+        omega (arith, at-slot .slot .ensures, at-start .pre .0),
+        rw (
+          ← at-leaf .leaf .ensures,
+          ← at-slot .slot .ensures,
+          ← at-mark .load .ensures,
+          ← at-below .below-x .ensures,
+          at-side .if1 .taken,
+          ← at-record .store .ensures,
+          ← at-over .over .ensures,
+          ← at-put .store2 .ensures,
+        ),
+      ),
+    )
 
--- src/main_tree.rt:47:5
-put-requires-3 : tie.Need-put-requires-3
-put-requires-3 c κs = search needs
+store-requires-3 : tie.Need-store-requires-3
+store-requires-3 c κs =
+    let at-start = c .before .before .before .before .before .before .before .before .before in
+    omega (arith, at-start .pre .1 .0, at-start .pre .1 .3)
 
--- src/main_tree.rt:48:28
 over-requires-2 : tie.Need-over-requires-2
 over-requires-2 c κs = search needs
 
--- src/main_tree.rt:48:5
-put-requires-4 : tie.Need-put-requires-4
-put-requires-4 c κs = search needs
+store-requires-4 : tie.Need-store-requires-4
+store-requires-4 c κs =
+    let at-record = c .before .before .before .before in
+    let at-slot = at-record .before .before .before .before .before .before in
+    let at-start = at-slot .before .before .before .before in
+    search (needs, at-start .pre .1 .2, at-record .store3)
 
--- src/main_tree.rt:34:1
 same-length-2 : tie.Need-same-length-2
 same-length-2 c = search needs
 
--- src/main_tree.rt:34:1
 returns-2 : tie.Need-returns-2
 unfolding splitName split♯ nodeAt
-returns-2 c = (rw (← c .before .before .before .before .before .before .before .before .before .before .before .before .before .slot .ensures, ← c .before .before .before .before .before .before .before .before .before .before .before .mark-at .ensures, ← c .before .before .before .before .before .before .before .before .before .before .below-x .ensures, c .before .before .before .before .before .before .before .before .before .if1 .left), rw (← c .before .before .before .before .before .before .before .before .before .before .before .before .before .before .before .leaf .ensures, ← c .before .before .before .before .before .before .before .before .before .before .before .before .before .slot .ensures, ← c .before .before .before .before .before .before .before .before .before .before .before .mark-at .ensures, ← c .before .before .before .before .before .before .before .before .before .before .below-x .ensures, c .before .before .before .before .before .before .before .before .before .if1 .left, ← c .before .before .before .before .before .before .before .put3 .ensures, ← c .before .before .before .over2 .ensures, ← c .before .before .put4 .ensures))
+returns-2 c =
+    let at-put = c .before .before in
+    let at-over = at-put .before in
+    let at-record = at-over .before .before .before .before in
+    let at-side = at-record .before .before in
+    let at-below = at-side .before in
+    let at-mark = at-below .before in
+    let at-slot = at-mark .before .before in
+    let at-leaf = at-slot .before .before in
+    let at-start = at-leaf .before .before in (
+      rw (← at-slot .slot .ensures, ← at-mark .load .ensures, ← at-below .below-x .ensures, at-side .if1 .left),
+      (
+        at-start .pre .1 .0,
+        rw (
+          ← at-leaf .leaf .ensures,
+          ← at-slot .slot .ensures,
+          ← at-mark .load .ensures,
+          ← at-below .below-x .ensures,
+          at-side .if1 .left,
+          ← at-record .store3 .ensures,
+          ← at-over .over2 .ensures,
+          ← at-put .store4 .ensures,
+        ),
+      ),
+    )
 
 pub split-spec : {M : Type 1} → statement M
 split-spec =
@@ -77,15 +128,15 @@ split-spec =
     (tie.spec
     leaf-requires
     slot-requires
-    mark-at-requires
+    load-requires
     below-x-requires
-    put-requires
+    store-requires
     over-requires
-    put-requires-2
+    store-requires-2
     same-length
     returns
-    put-requires-3
+    store-requires-3
     over-requires-2
-    put-requires-4
+    store-requires-4
     same-length-2
     returns-2)

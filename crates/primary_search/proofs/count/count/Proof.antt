@@ -16,7 +16,7 @@ use Rattle.primary_search.proofs.count.count.Lts as lts
 use Rattle.nodes.proofs.primary.PrimaryArm.at.Reads as at-reads
 use Rattle.primary_search.proofs.count.search.Reads as search-reads
 use Rattle.table.proofs.header.capacity.Reads as capacity-reads
-use Rattle.twofold.proofs.levels.top.Reads as top-reads
+use Rattle.twofold_layout.proofs.levels.top.Reads as top-reads
 
 -- words lent whole are the same words
 lent-whole : (xs : List ℕ) (capacity : ℕ) (b : Box) (base : ℕ) (a : Arm) (r : ℕ) → r ≡ mainSearch♯ (take (length xs - 0) xs) capacity b base a

@@ -1,4 +1,5 @@
 -- The loop keeps: what is left to search beneath `node`, with the levels left, is what was asked for. What falls: the levels left. Assumes nothing.
+use Rattle.table.proofs.Fuel.{positive, nothing}
 use Rattle.primary_search.proofs.find.find_beneath.Statement.{statement}
 use Prim.Native.Nat.{ℕ, _<_, _≤_}
 use mathlib.Core.Path.{_≡_}
@@ -6,7 +7,7 @@ use native.Mathlib.Omega.{arith}
 use borrow.Author.Needs.{needs}
 use borrow.Author.Tests.{le-leb, lt-leb}
 use Rattle.geometry.specs.Values.{markValue}
-use Rattle.table.specs.Layout.{deepest}
+use Rattle.table.specs.Limits.{deepest}
 use Rattle.primary_search.specs.Find.{findLeaf, findNode, findBeneath♯, findBeneath♯-zero, findBeneath♯-suc}
 use Rattle.primary_search.proofs.find.find_beneath.Tie as tie
 use Rattle.primary_search.proofs.find.find_beneath.Reads as reads
@@ -18,12 +19,6 @@ use Rattle.nodes.proofs.primary.Primary.slot.Reads as slot-reads
 use Rattle.primary_search.proofs.find.left_inside.Reads as left-inside-reads
 use Rattle.primary_search.proofs.find.mark_inside.Reads as mark-inside-reads
 use Rattle.primary_search.proofs.find.right_inside.Reads as right-inside-reads
-
-positive : (n : ℕ) → 0 < n → n ≡ 0 → ⊥
-positive n h e = omega arith
-
-nothing : (n : ℕ) → n ≤ 0 → n ≡ 0
-nothing n h = omega arith
 
 abbrev Inv-loop : tie.InvT-loop
 Inv-loop t capacity m node₀ left₀ node left =

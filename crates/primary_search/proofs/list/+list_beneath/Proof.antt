@@ -4,7 +4,7 @@ use borrow.Fn.PlainCycle.{Measures, is, falls, and}
 use Rattle.primary_search.proofs.list.+list_beneath.{statement}
 use Rattle.primary_search.proofs.list.+list_beneath.Tie.{close}
 use Rattle.model.specs.Sheet.{auxiliary}
-use Rattle.twofold.specs.Levels.{deeper}
+use Rattle.twofold_layout.specs.Levels.{deeper}
 use borrow.Author.Tests.{le-leb, lt-leb}
 use Rattle.primary_search.specs.List.{listArm, listBeneath♯-suc, listBeneath♯-zero, listChildren, listInner}
 use borrow.Author.Needs.{needs}
@@ -21,7 +21,7 @@ use Rattle.nodes.proofs.primary.PrimaryRecord.at.Reads as at-reads
 use Rattle.nodes.proofs.primary.PrimaryRecord.auxiliary.Reads as auxiliary-reads
 use Rattle.table.proofs.tally.visit.Reads as visit-reads
 use Rattle.table.proofs.tally.visits.Reads as visits-reads
-use Rattle.twofold.proofs.levels.deeper.Reads as deeper-reads
+use Rattle.twofold_layout.proofs.levels.deeper.Reads as deeper-reads
 
 abbrev μ-list-beneath : Measures 2 list-beneath-kinds.ps ℕ
 μ-list-beneath κs a = a .1 .1 .1 .1 .1 .1 .1 .1 .0

@@ -8,7 +8,7 @@ use Rattle.primary_search.proofs.list.list.Lts as lts
 use Rattle.primary_search.proofs.list.list_beneath.Reads as list-beneath-reads
 use Rattle.table.proofs.header.capacity.Reads as capacity-reads
 use Rattle.nodes.proofs.primary.PrimaryArm.at.Reads as at-reads
-use Rattle.twofold.proofs.levels.top.Reads as top-reads
+use Rattle.twofold_layout.proofs.levels.top.Reads as top-reads
 
 -- src/list.rt:74:9
 at-requires : tie.Need-at-requires

@@ -5,11 +5,11 @@ use Rattle.primary_strike.proofs.strike.damaged.Reads as reads
 use Rattle.primary_strike.proofs.strike.damaged.Lts as lts
 use Rattle.nodes.proofs.primary.PrimaryArm.none.Reads as none-reads
 
--- src/strike.rt:44:9
+-- src/strike.rt:46:9
 none-requires : tie.Need-none-requires
 none-requires c κs = search needs
 
--- src/strike.rt:41:1
+-- src/strike.rt:43:1
 returns : tie.Need-returns
 returns c = rw (← c .none .ensures)
 

@@ -1,35 +1,36 @@
 use borrow.Author.Needs.{needs}
 use Rattle.primary_strike.proofs.strike.lifted.Statement.{statement}
-use Rattle.model.specs.History.{answer}
-use Rattle.twofold.specs.Levels.{deeper}
 use Rattle.primary_strike.specs.Strike.{lifted♯}
 use Rattle.primary_strike.proofs.strike.lifted.Tie as tie
 use Rattle.primary_strike.proofs.strike.lifted.Reads as reads
 use Rattle.primary_strike.proofs.strike.lifted.Lts as lts
 use Rattle.primary_strike.proofs.lift.lift.Reads as lift-reads
 use Rattle.primary_strike.proofs.strike.answer.Reads as answer-reads
-use Rattle.twofold.proofs.levels.deeper.Reads as deeper-reads
+use Rattle.twofold_layout.proofs.levels.deeper.Reads as deeper-reads
 
--- src/strike.rt:56:9
+-- src/strike.rt:60:9
 deeper-requires : tie.Need-deeper-requires
 deeper-requires c κs = search needs
 
--- src/strike.rt:57:5
+-- src/strike.rt:61:5
 lift-requires : tie.Need-lift-requires
 lift-requires c κs = search needs
 
--- src/strike.rt:58:5
+-- src/strike.rt:62:5
 answer-requires : tie.Need-answer-requires
 answer-requires c κs = search needs
 
--- src/strike.rt:52:1
+-- src/strike.rt:55:1
 same-length : tie.Need-same-length
 same-length c = search needs
 
--- src/strike.rt:52:1
+-- src/strike.rt:55:1
 returns : tie.Need-returns
 unfolding lifted♯
-returns c = rw (← c .before .before .before .before .before .deeper .ensures, ← c .before .before .before .lift .ensures, ← c .answer .ensures)
+returns c =
+    let at-lift = c .before .before .before in
+    let at-deeper = at-lift .before .before in
+    rw (← at-deeper .deeper .ensures, ← at-lift .lift .ensures, ← c .answer .ensures)
 
 pub lifted-spec : {M : Type 1} → statement M
 lifted-spec =

@@ -5,88 +5,123 @@ use Rattle.primary_strike.specs.Strike.{mainStrike♯, putStruck, strike
 use Rattle.primary_strike.proofs.strike.strike.Tie as tie
 use Rattle.primary_strike.proofs.strike.strike.Reads as reads
 use Rattle.primary_strike.proofs.strike.strike.Lts as lts
-use Rattle.primary_strike.proofs.strike.strike_beneath.Reads as strike-beneath-reads
-use Rattle.table.proofs.header.capacity.Reads as capacity-reads
 use Rattle.nodes.proofs.primary.Primary.is_leaf.Reads as is-leaf-reads
-use Rattle.nodes.proofs.primary.PrimaryArm.at.Reads as at-reads
+use Rattle.nodes.proofs.primary.PrimaryArm.load.Reads as load-reads
 use Rattle.nodes.proofs.primary.PrimaryArm.none.Reads as none-reads
-use Rattle.nodes.proofs.primary.PrimaryArm.put.Reads as put-reads
-use Rattle.twofold.proofs.levels.top.Reads as top-reads
+use Rattle.nodes.proofs.primary.PrimaryArm.store.Reads as store-reads
+use Rattle.primary_strike.proofs.strike.strike_beneath.Reads as strike-beneath-reads
+use Rattle.twofold_layout.proofs.levels.top.Reads as top-reads
 
--- src/strike.rt:157:9
-at-requires : tie.Need-at-requires
-at-requires c κs = search needs
+-- src/strike.rt:186:9
+load-requires : tie.Need-load-requires
+load-requires c κs = search needs
 
--- src/strike.rt:159:8
+-- src/strike.rt:188:8
 is-leaf-requires : tie.Need-is-leaf-requires
 is-leaf-requires c κs = search needs
 
--- src/strike.rt:160:43
+-- src/strike.rt:189:44
 none-requires : tie.Need-none-requires
 none-requires c κs = search needs
 
--- src/strike.rt:160:9
-put-requires : tie.Need-put-requires
-put-requires c κs = search needs
+-- src/strike.rt:189:9
+store-requires : tie.Need-store-requires
+store-requires c κs = search needs
 
--- src/strike.rt:161:9
+-- src/strike.rt:190:9
 same-length : tie.Need-same-length
 same-length c = search needs
 
--- src/strike.rt:161:9
+-- src/strike.rt:190:9
 returns : tie.Need-returns
 unfolding mainStrike♯ strikeRoot putStruck
-returns c = rw (← c .before .before .before .before .before .before .before .before .at .ensures, ← c .before .before .before .before .before .before .is-leaf .ensures, c .before .before .before .before .before .if1 .taken, ← c .before .before .before .none .ensures, ← c .before .before .put .ensures)
+returns c =
+    let at-store = c .before .before in
+    let at-none = at-store .before in
+    let at-if1 = at-none .before .before in
+    let at-is-leaf = at-if1 .before in
+    let at-load = at-is-leaf .before .before in
+    rw (
+      ← at-load .load .ensures,
+      ← at-is-leaf .is-leaf .ensures,
+      at-if1 .if1 .taken,
+      ← at-none .none .ensures,
+      ← at-store .store .ensures,
+    )
 
--- src/strike.rt:163:9
-capacity-requires : tie.Need-capacity-requires
-capacity-requires c κs = search needs
-
--- src/strike.rt:164:31
+-- src/strike.rt:192:9
 top-requires : tie.Need-top-requires
 top-requires c κs = search needs
 
--- src/strike.rt:164:9
+-- src/strike.rt:193:9
 strike-beneath-requires : tie.Need-strike-beneath-requires
 strike-beneath-requires c κs = search needs
 
--- src/strike.rt:167:9
+-- src/strike.rt:196:9
 same-length-2 : tie.Need-same-length-2
 same-length-2 c = search needs
 
--- src/strike.rt:167:9
+-- src/strike.rt:196:9
 returns-2 : tie.Need-returns-2
 unfolding mainStrike♯ strikeRoot putStruck
-returns-2 c = rw (← c .before .before .before .before .before .before .before .before .before .before .before .before .before .at .ensures, ← c .before .before .before .before .before .before .before .before .before .before .before .is-leaf .ensures, c .before .before .before .before .before .before .before .before .before .before .if1 .left, ← c .before .before .before .before .before .before .before .before .capacity .ensures, ← c .before .before .before .before .before .before .top .ensures, ← c .before .before .before .before .before .strike-beneath .ensures, eq-eqb _ _ (c .if2 .taken))
+returns-2 c =
+    let at-strike-beneath = c .before .before .before .before .before in
+    let at-top = at-strike-beneath .before .before in
+    let at-if1 = at-top .before in
+    let at-is-leaf = at-if1 .before in
+    let at-load = at-is-leaf .before .before in
+    rw (
+      ← at-load .load .ensures,
+      ← at-is-leaf .is-leaf .ensures,
+      at-if1 .if1 .left,
+      ← at-top .top .ensures,
+      ← at-strike-beneath .strike-beneath .ensures,
+      eq-eqb _ _ (c .if2 .taken),
+    )
 
--- src/strike.rt:169:5
-put-requires-2 : tie.Need-put-requires-2
-put-requires-2 c κs = search needs
+-- src/strike.rt:198:5
+store-requires-2 : tie.Need-store-requires-2
+store-requires-2 c κs = search needs
 
--- src/strike.rt:154:1
+-- src/strike.rt:182:1
 same-length-3 : tie.Need-same-length-3
 same-length-3 c = search needs
 
--- src/strike.rt:154:1
+-- src/strike.rt:182:1
 returns-3 : tie.Need-returns-3
 unfolding mainStrike♯ strikeRoot putStruck
-returns-3 c = rw (← c .before .before .before .before .before .before .before .before .before .before .before .before .before .before .before .before .before .at .ensures, ← c .before .before .before .before .before .before .before .before .before .before .before .before .before .before .before .is-leaf .ensures, c .before .before .before .before .before .before .before .before .before .before .before .before .before .before .if1 .left, ← c .before .before .before .before .before .before .before .before .before .before .before .before .capacity .ensures, ← c .before .before .before .before .before .before .before .before .before .before .top .ensures, ← c .before .before .before .before .before .before .before .before .before .strike-beneath .ensures, ne-eqb _ _ (c .before .before .before .before .if2 .left), ← c .before .before .put2 .ensures)
+returns-3 c =
+    let at-store2 = c .before .before in
+    let at-if2 = at-store2 .before .before in
+    let at-strike-beneath = at-if2 .before .before .before .before .before in
+    let at-top = at-strike-beneath .before .before in
+    let at-if1 = at-top .before in
+    let at-is-leaf = at-if1 .before in
+    let at-load = at-is-leaf .before .before in
+    rw (
+      ← at-load .load .ensures,
+      ← at-is-leaf .is-leaf .ensures,
+      at-if1 .if1 .left,
+      ← at-top .top .ensures,
+      ← at-strike-beneath .strike-beneath .ensures,
+      ne-eqb _ _ (at-if2 .if2 .left),
+      ← at-store2 .store2 .ensures,
+    )
 
 pub strike-spec : {M : Type 1} → statement M
 strike-spec =
     tie.close
     (tie.spec
-    at-requires
+    load-requires
     is-leaf-requires
     none-requires
-    put-requires
+    store-requires
     same-length
     returns
-    capacity-requires
     top-requires
     strike-beneath-requires
     same-length-2
     returns-2
-    put-requires-2
+    store-requires-2
     same-length-3
     returns-3)

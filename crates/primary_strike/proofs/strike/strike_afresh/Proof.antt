@@ -1,34 +1,36 @@
 use borrow.Author.Needs.{needs}
 use Rattle.primary_strike.proofs.strike.strike_afresh.Statement.{statement}
-use Rattle.model.specs.History.{answer}
 use Rattle.primary_strike.specs.Strike.{struckAfresh♯, struckFresh}
 use Rattle.primary_strike.proofs.strike.strike_afresh.Tie as tie
 use Rattle.primary_strike.proofs.strike.strike_afresh.Reads as reads
 use Rattle.primary_strike.proofs.strike.strike_afresh.Lts as lts
+use Rattle.nodes.proofs.weights.fewer.Reads as fewer-reads
 use Rattle.primary_build.proofs.build.rebuild.Reads as rebuild-reads
 use Rattle.primary_strike.proofs.strike.answer.Reads as answer-reads
-use Rattle.table.proofs.weights.fewer.Reads as fewer-reads
 
--- src/strike.rt:65:9
+-- src/strike.rt:77:9
 fewer-requires : tie.Need-fewer-requires
 fewer-requires c κs = search needs
 
--- src/strike.rt:66:9
+-- src/strike.rt:78:9
 rebuild-requires : tie.Need-rebuild-requires
 rebuild-requires c κs = search needs
 
--- src/strike.rt:67:5
+-- src/strike.rt:79:5
 answer-requires : tie.Need-answer-requires
 answer-requires c κs = search needs
 
--- src/strike.rt:62:1
+-- src/strike.rt:66:1
 same-length : tie.Need-same-length
 same-length c = search needs
 
--- src/strike.rt:62:1
+-- src/strike.rt:66:1
 returns : tie.Need-returns
 unfolding struckAfresh♯ struckFresh
-returns c = rw (← c .before .before .before .before .before .fewer .ensures, ← c .before .before .before .rebuild .ensures, ← c .answer .ensures)
+returns c =
+    let at-rebuild = c .before .before .before in
+    let at-fewer = at-rebuild .before .before in
+    rw (← at-fewer .fewer .ensures, ← at-rebuild .rebuild .ensures, ← c .answer .ensures)
 
 pub strike-afresh-spec : {M : Type 1} → statement M
 strike-afresh-spec =

@@ -6,11 +6,11 @@ use Rattle.register.proofs.count.count.Reads as reads
 use Rattle.register.proofs.count.count.Lts as lts
 use Rattle.register.proofs.count.counted.Reads as counted-reads
 
--- src/count.rt:43:5
+-- src/count.rt:48:5
 counted-requires : tie.Need-counted-requires
 counted-requires c κs = search needs
 
--- src/count.rt:40:1
+-- src/count.rt:45:1
 returns : tie.Need-returns
 returns c = count-performs _ _ _ (c .counted .ensures)
 

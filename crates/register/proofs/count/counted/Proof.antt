@@ -9,7 +9,7 @@ use Rattle.register.proofs.count.counted.Statement.{statement}
 use Rattle.register.proofs.count.counted.Tie as tie
 use Rattle.register.proofs.count.counted.Reads as reads
 use Rattle.register.proofs.count.counted.Lts as lts
-use Rattle.checking.proofs.header.own.Reads as own-reads
+use Rattle.table.proofs.header.own.Reads as own-reads
 use Rattle.geometry.proofs.Box.new.Reads as new-reads
 use Rattle.register.proofs.count.count_own.Reads as count-own-reads
 

@@ -5,7 +5,7 @@ use Rattle.register.proofs.insert.insert_own.Statement.{statement}
 use Rattle.register.proofs.insert.insert_own.Tie as tie
 use Rattle.register.proofs.insert.insert_own.Reads as reads
 use Rattle.register.proofs.insert.insert_own.Lts as lts
-use Rattle.primary.proofs.insert.insert.Reads as insert-reads
+use Rattle.whole_table.proofs.insert.insert.Reads as insert-reads
 use Rattle.primary_search.proofs.find.find.Reads as find-reads
 use Rattle.register.proofs.update.close.Reads as close-reads
 use Rattle.register.proofs.update.settle.Reads as settle-reads

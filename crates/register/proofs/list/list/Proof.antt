@@ -6,19 +6,19 @@ use Rattle.register.proofs.list.list.Reads as reads
 use Rattle.register.proofs.list.list.Lts as lts
 use Rattle.register.proofs.list.listed.Reads as listed-reads
 
--- src/list.rt:86:5
+-- src/list.rt:102:5
 listed-requires : tie.Need-listed-requires
 listed-requires c κs = search needs
 
--- src/list.rt:72:1
+-- src/list.rt:88:1
 same-length : tie.Need-same-length
 same-length c = search needs
 
--- src/list.rt:72:1
+-- src/list.rt:88:1
 same-length-2 : tie.Need-same-length-2
 same-length-2 c = search needs
 
--- src/list.rt:72:1
+-- src/list.rt:88:1
 returns : tie.Need-returns
 returns c =
     let at-listed = c .before .before .before .before in

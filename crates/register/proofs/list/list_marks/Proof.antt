@@ -8,47 +8,47 @@ use Rattle.primary_search.proofs.list.list.Reads as list-reads
 use Rattle.sorting.proofs.sort.sort_lists.Reads as sort-lists-reads
 use Rattle.table.proofs.tally.visits.Reads as visits-reads
 
--- src/list.rt:23:17
+-- src/list.rt:34:17
 mul-words : tie.Need-mul-words
 mul-words c = search needs
 
--- src/list.rt:24:50
+-- src/list.rt:35:50
 sub-list : tie.Need-sub-list
 sub-list c = search needs
 
--- src/list.rt:24:50
+-- src/list.rt:35:50
 part-list-start : tie.Need-part-list-start
 part-list-start c = search needs
 
--- src/list.rt:24:50
+-- src/list.rt:35:50
 part-list-end : tie.Need-part-list-end
 part-list-end c = search needs
 
--- src/list.rt:24:87
+-- src/list.rt:35:79
 mul-list : tie.Need-mul-list
 mul-list c = search needs
 
--- src/list.rt:24:72
+-- src/list.rt:35:72
 add-list : tie.Need-add-list
 add-list c = search needs
 
--- src/list.rt:24:9
+-- src/list.rt:35:9
 list-requires : tie.Need-list-requires
 list-requires c κs = search needs
 
--- src/list.rt:25:9
+-- src/list.rt:36:9
 sort-lists-requires : tie.Need-sort-lists-requires
 sort-lists-requires c κs = search needs
 
--- src/list.rt:26:24
+-- src/list.rt:37:24
 visits-requires : tie.Need-visits-requires
 visits-requires c κs = search needs
 
--- src/list.rt:19:1
+-- src/list.rt:22:1
 same-length : tie.Need-same-length
 same-length c = search needs
 
--- src/list.rt:19:1
+-- src/list.rt:22:1
 same-length-2 : tie.Need-same-length-2
 same-length-2 c = search needs
 

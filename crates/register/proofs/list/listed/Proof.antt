@@ -1,7 +1,7 @@
 -- `listed` meets its contract: a branch for each row, and the list from the table's own words. Assumes nothing.
 use Rattle.register.proofs.Branches.{list-not-table, list-crossed, list-own}
 use Rattle.register.proofs.Own.{own-fits, part-live}
-use Rattle.checking.proofs.Own.{own-visits-few}
+use Rattle.table.proofs.Own.{own-visits-few}
 use Rattle.geometry.specs.Values.{boxOutcome}
 use native.Mathlib.Omega.{arith}
 use mathlib.Core.Path.{sym, ap, _∙_}
@@ -10,7 +10,7 @@ use Rattle.register.proofs.list.listed.Statement.{statement}
 use Rattle.register.proofs.list.listed.Tie as tie
 use Rattle.register.proofs.list.listed.Reads as reads
 use Rattle.register.proofs.list.listed.Lts as lts
-use Rattle.checking.proofs.header.own.Reads as own-reads
+use Rattle.table.proofs.header.own.Reads as own-reads
 use Rattle.geometry.proofs.Box.new.Reads as new-reads
 use Rattle.register.proofs.list.list_own.Reads as list-own-reads
 

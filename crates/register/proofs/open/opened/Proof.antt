@@ -7,7 +7,7 @@ use Rattle.register.proofs.open.opened.Statement.{statement}
 use Rattle.register.proofs.open.opened.Tie as tie
 use Rattle.register.proofs.open.opened.Reads as reads
 use Rattle.register.proofs.open.opened.Lts as lts
-use Rattle.primary.proofs.empty.empty.Reads as empty-reads
+use Rattle.whole_table.proofs.empty.empty.Reads as empty-reads
 use Rattle.sizes.proofs.fit.Reads as fit-reads
 
 -- src/open.rt:15:11

@@ -1,70 +1,77 @@
-use Rattle.register.specs.Mirrors.{strikeOwn♯, strikeFound, settledAfter}
-use borrow.Author.Tests.{eq-eqb, ne-eqb}
 use borrow.Author.Needs.{needs}
 use Rattle.register.proofs.strike.strike_own.Statement.{statement}
+use borrow.Author.Tests.{eq-eqb, ne-eqb}
+use Rattle.register.specs.Mirrors.{settledAfter, strikeFound, strikeOwn♯}
 use Rattle.register.proofs.strike.strike_own.Tie as tie
 use Rattle.register.proofs.strike.strike_own.Reads as reads
 use Rattle.register.proofs.strike.strike_own.Lts as lts
-use Rattle.primary.proofs.strike.strike.Reads as strike-reads
 use Rattle.primary_search.proofs.find.find.Reads as find-reads
 use Rattle.register.proofs.update.close.Reads as close-reads
 use Rattle.register.proofs.update.settle.Reads as settle-reads
+use Rattle.table.proofs.header.capacity.Reads as capacity-reads
+use Rattle.whole_table.proofs.strike.strike.Reads as strike-reads
 
--- src/strike.rt:22:9
+-- src/strike.rt:27:9
 find-requires : tie.Need-find-requires
 find-requires c κs = search needs
 
--- src/strike.rt:24:9
+-- src/strike.rt:29:9
 close-requires : tie.Need-close-requires
 close-requires c κs = search needs
 
--- src/strike.rt:24:9
+-- src/strike.rt:29:9
 same-length : tie.Need-same-length
 same-length c = search needs
 
--- src/strike.rt:24:9
+-- src/strike.rt:29:9
 returns : tie.Need-returns
-unfolding strikeOwn♯ strikeFound
+unfolding strikeOwn♯ strikeFound settledAfter
 returns c =
     let at-close = c .before .before in
     let at-if1 = at-close .before .before in
     let at-find = at-if1 .before in
     rw (← at-find .find .ensures, eq-eqb _ _ (at-if1 .if1 .taken), ← at-close .close .ensures)
 
--- src/strike.rt:27:9
+-- src/strike.rt:32:9
 same-length-2 : tie.Need-same-length-2
 same-length-2 c = search needs
 
--- src/strike.rt:27:9
+-- src/strike.rt:32:9
 returns-2 : tie.Need-returns-2
-unfolding strikeOwn♯ strikeFound
+unfolding strikeOwn♯ strikeFound settledAfter
 returns-2 c = rw (← c .before .before .find .ensures, ne-eqb _ _ (c .before .if1 .left), eq-eqb _ _ (c .if2 .taken))
 
--- src/strike.rt:29:9
+-- src/strike.rt:34:9
+capacity-requires : tie.Need-capacity-requires
+capacity-requires c κs = search needs
+
+-- src/strike.rt:35:9
 strike-requires : tie.Need-strike-requires
 strike-requires c κs = search needs
 
--- src/strike.rt:30:5
+-- src/strike.rt:36:5
 settle-requires : tie.Need-settle-requires
 settle-requires c κs = search needs
 
--- src/strike.rt:19:1
+-- src/strike.rt:23:1
 same-length-3 : tie.Need-same-length-3
 same-length-3 c = search needs
 
--- src/strike.rt:19:1
+-- src/strike.rt:23:1
 returns-3 : tie.Need-returns-3
 unfolding strikeOwn♯ strikeFound settledAfter
 returns-3 c =
     let at-settle = c .before .before in
     let at-strike = at-settle .before .before .before .before in
-    let at-if2 = at-strike .before .before in
+    let at-capacity = at-strike .before .before in
+    let at-if2 = at-capacity .before .before in
     let at-if1 = at-if2 .before in
     let at-find = at-if1 .before in
-    rw (
+    simp (
       ← at-find .find .ensures,
       ne-eqb _ _ (at-if1 .if1 .left),
       ne-eqb _ _ (at-if2 .if2 .left),
+      ← at-capacity .capacity .ensures,
       ← at-strike .strike .ensures,
       ← at-settle .settle .ensures,
     )
@@ -79,6 +86,7 @@ strike-own-spec =
     returns
     same-length-2
     returns-2
+    capacity-requires
     strike-requires
     settle-requires
     same-length-3

@@ -1,74 +1,62 @@
+-- What is gathered is built; where nothing is, there is no tree.
+use native.Mathlib.Omega.{arith}
 use borrow.Author.Needs.{needs}
 use Rattle.secondary_build.proofs.build.rebuild.Statement.{statement}
-use borrow.Author.Tests.{eq-eqb, le-ltb, lt-ltb, ne-eqb}
-use Rattle.secondary_build.specs.Build.{rebuildRun, rebuildWithin, rebuild♯}
+use Rattle.secondary_build.specs.Build.{rebuildRun, rebuild♯}
 use Rattle.secondary_build.proofs.build.rebuild.Tie as tie
 use Rattle.secondary_build.proofs.build.rebuild.Reads as reads
 use Rattle.secondary_build.proofs.build.rebuild.Lts as lts
-use Rattle.secondary_build.proofs.build.build.Reads as build-reads
-use Rattle.secondary_build.proofs.collect.collect.Reads as collect-reads
-use Rattle.table.proofs.header.capacity.Reads as capacity-reads
+use Rattle.nodes.proofs.secondary.Secondary.gather.Reads as gather-reads
 use Rattle.nodes.proofs.secondary.SecondaryArm.none.Reads as none-reads
+use Rattle.secondary_build.proofs.build.build.Reads as build-reads
 
--- src/build.rt:42:9
-capacity-requires : tie.Need-capacity-requires
-capacity-requires c κs = search needs
+-- src/build.rt:87:8
+gather-requires : tie.Need-gather-requires
+gather-requires c κs = search needs
 
--- src/build.rt:45:9
-none-requires : tie.Need-none-requires
-none-requires c κs = search needs
+-- src/build.rt:88:9
+build-requires : tie.Need-build-requires
+build-requires c κs =
+    let at-gather = c .before .before .before .before in
+    let fits = at-gather .gather .ensures .1 (c .before .if1 .taken) in
+    (fits .0, omega (arith, fits .1), search needs, search needs)
 
--- src/build.rt:45:9
+-- src/build.rt:88:9
 same-length : tie.Need-same-length
 same-length c = search needs
 
--- src/build.rt:45:9
+-- src/build.rt:88:9
 returns : tie.Need-returns
-unfolding rebuild♯ rebuildWithin rebuildRun
-returns c = rw (← c .before .before .capacity .ensures, lt-ltb _ _ (c .before .if1 .taken), ← c .none .ensures)
+unfolding rebuild♯ rebuildRun
+returns c =
+    let at-build = c .before .before in
+    let at-if1 = at-build .before .before in
+    let at-gather = at-if1 .before .before .before in
+    rw (← at-gather .gather .ensures .0, at-if1 .if1 .taken, ← at-build .build .ensures)
 
--- src/build.rt:48:9
-collect-requires : tie.Need-collect-requires
-collect-requires c κs = search needs
+-- src/build.rt:90:5
+none-requires : tie.Need-none-requires
+none-requires c κs = search needs
 
--- src/build.rt:50:9
-build-requires : tie.Need-build-requires
-build-requires c κs = search needs
-
--- src/build.rt:50:9
+-- src/build.rt:76:1
 same-length-2 : tie.Need-same-length-2
 same-length-2 c = search needs
 
--- src/build.rt:50:9
+-- src/build.rt:76:1
 returns-2 : tie.Need-returns-2
-unfolding rebuild♯ rebuildWithin rebuildRun
-returns-2 c = rw (← c .before .before .before .before .before .before .before .before .before .before .before .capacity .ensures, le-ltb _ _ (c .before .before .before .before .before .before .before .before .before .before .if1 .left), ← c .before .before .before .before .before .before .before .collect .ensures, eq-eqb _ _ (c .before .before .before .before .if2 .taken), ← c .before .before .build .ensures)
-
--- src/build.rt:52:5
-none-requires-2 : tie.Need-none-requires-2
-none-requires-2 c κs = search needs
-
--- src/build.rt:39:1
-same-length-3 : tie.Need-same-length-3
-same-length-3 c = search needs
-
--- src/build.rt:39:1
-returns-3 : tie.Need-returns-3
-unfolding rebuild♯ rebuildWithin rebuildRun
-returns-3 c = rw (← c .before .before .before .before .before .before .before .before .capacity .ensures, le-ltb _ _ (c .before .before .before .before .before .before .before .if1 .left), ← c .before .before .before .before .collect .ensures, ne-eqb _ _ (c .before .if2 .left), ← c .none2 .ensures)
+unfolding rebuild♯ rebuildRun
+returns-2 c =
+    let at-gather = c .before .before .before .before in
+    rw (← at-gather .gather .ensures .0, c .before .if1 .left, ← c .none .ensures)
 
 pub rebuild-spec : {M : Type 1} → statement M
 rebuild-spec =
     tie.close
     (tie.spec
-    capacity-requires
-    none-requires
+    gather-requires
+    build-requires
     same-length
     returns
-    collect-requires
-    build-requires
+    none-requires
     same-length-2
-    returns-2
-    none-requires-2
-    same-length-3
-    returns-3)
+    returns-2)

@@ -1,22 +1,22 @@
 use borrow.Author.Needs.{needs}
 use Rattle.secondary_update.proofs.insert.afresh.Statement.{statement}
-use Rattle.secondary_update.specs.Insert.{afresh♯, putFresh}
+use Rattle.secondary_update.specs.Insert.{afresh♯, rebuiltAt, putFresh}
 use borrow.Author.Tests.{eq-eqb, ne-eqb}
 use Rattle.secondary_update.proofs.insert.afresh.Tie as tie
 use Rattle.secondary_update.proofs.insert.afresh.Reads as reads
 use Rattle.secondary_update.proofs.insert.afresh.Lts as lts
 use Rattle.secondary_build.proofs.build.rebuild.Reads as rebuild-reads
-use Rattle.nodes.proofs.secondary.SecondaryArm.at.Reads as at-reads
-use Rattle.nodes.proofs.secondary.SecondaryArm.put.Reads as put-reads
+use Rattle.nodes.proofs.secondary.SecondaryArm.load.Reads as load-reads
+use Rattle.nodes.proofs.secondary.SecondaryArm.store.Reads as store-reads
 
 -- src/insert.rt:68:9
 returns : tie.Need-returns
-unfolding afresh♯ putFresh
+unfolding afresh♯ rebuiltAt putFresh
 returns c = rw (eq-eqb _ _ (c .if1 .taken))
 
 -- src/insert.rt:70:9
-at-requires : tie.Need-at-requires
-at-requires c κs = search needs
+load-requires : tie.Need-load-requires
+load-requires c κs = search needs
 
 -- src/insert.rt:71:9
 rebuild-requires : tie.Need-rebuild-requires
@@ -28,12 +28,21 @@ same-length c = search needs
 
 -- src/insert.rt:73:9
 returns-2 : tie.Need-returns-2
-unfolding afresh♯ putFresh
-returns-2 c = rw (ne-eqb _ _ (c .before .before .before .before .before .before .before .before .if1 .left), ← c .before .before .before .before .before .before .at .ensures, ← c .before .before .before .before .rebuild .ensures, eq-eqb _ _ (c .if2 .taken))
+unfolding afresh♯ rebuiltAt putFresh
+returns-2 c =
+    let at-rebuild = c .before .before .before .before in
+    let at-at = at-rebuild .before .before in
+    let at-if1 = at-at .before .before in
+    rw (
+      ne-eqb _ _ (at-if1 .if1 .left),
+      ← at-at .load .ensures,
+      ← at-rebuild .rebuild .ensures,
+      eq-eqb _ _ (c .if2 .taken),
+    )
 
 -- src/insert.rt:75:5
-put-requires : tie.Need-put-requires
-put-requires c κs = search needs
+store-requires : tie.Need-store-requires
+store-requires c κs = search needs
 
 -- src/insert.rt:63:1
 same-length-2 : tie.Need-same-length-2
@@ -41,18 +50,30 @@ same-length-2 c = search needs
 
 -- src/insert.rt:63:1
 returns-3 : tie.Need-returns-3
-unfolding afresh♯ putFresh
-returns-3 c = rw (ne-eqb _ _ (c .before .before .before .before .before .before .before .before .before .before .before .before .if1 .left), ← c .before .before .before .before .before .before .before .before .before .before .at .ensures, ← c .before .before .before .before .before .before .before .before .rebuild .ensures, ne-eqb _ _ (c .before .before .before .before .if2 .left), ← c .before .before .put .ensures)
+unfolding afresh♯ rebuiltAt putFresh
+returns-3 c =
+    let at-put = c .before .before in
+    let at-if2 = at-put .before .before in
+    let at-rebuild = at-if2 .before .before .before .before in
+    let at-at = at-rebuild .before .before in
+    let at-if1 = at-at .before .before in
+    rw (
+      ne-eqb _ _ (at-if1 .if1 .left),
+      ← at-at .load .ensures,
+      ← at-rebuild .rebuild .ensures,
+      ne-eqb _ _ (at-if2 .if2 .left),
+      ← at-put .store .ensures,
+    )
 
 pub afresh-spec : {M : Type 1} → statement M
 afresh-spec =
     tie.close
     (tie.spec
     returns
-    at-requires
+    load-requires
     rebuild-requires
     same-length
     returns-2
-    put-requires
+    store-requires
     same-length-2
     returns-3)

@@ -1,4 +1,5 @@
 use borrow.Author.Needs.{needs}
+use native.Mathlib.Omega.{arith}
 use Rattle.secondary_update.proofs.insert.split.Statement.{statement}
 use Rattle.secondary_update.specs.Insert.{nodeAt, split♯}
 use Rattle.secondary_update.proofs.insert.split.Tie as tie
@@ -8,67 +9,105 @@ use Rattle.geometry.proofs.Mark.below_y.Reads as below-y-reads
 use Rattle.nodes.proofs.secondary.Secondary.slot.Reads as slot-reads
 use Rattle.nodes.proofs.secondary.SecondaryArm.leaf.Reads as leaf-reads
 use Rattle.nodes.proofs.secondary.SecondaryArm.over.Reads as over-reads
-use Rattle.nodes.proofs.secondary.SecondaryArm.put.Reads as secondary-SecondaryArm-put-reads
-use Rattle.nodes.proofs.secondary.SecondaryRecord.put.Reads as secondary-SecondaryRecord-put-reads
-use Rattle.table.proofs.slots.mark_at.Reads as mark-at-reads
+use Rattle.table.proofs.slots.load.Reads as mark-load-reads
+use Rattle.nodes.proofs.secondary.SecondaryArm.store.Reads as arm-store-reads
+use Rattle.nodes.proofs.secondary.SecondaryRecord.store.Reads as record-store-reads
 
--- src/insert.rt:50:9
 leaf-requires : tie.Need-leaf-requires
 leaf-requires c κs = search needs
 
--- src/insert.rt:52:9
 slot-requires : tie.Need-slot-requires
 slot-requires c κs = search needs
 
--- src/insert.rt:53:18
-mark-at-requires : tie.Need-mark-at-requires
-mark-at-requires c κs = search needs
+load-requires : tie.Need-load-requires
+load-requires c κs =
+    let at-slot = c .before in
+    let at-start = at-slot .before .before .before .before in
+    omega (arith, at-slot .slot .ensures, at-start .pre .0, at-start .pre .2 .2)
 
--- src/insert.rt:53:8
 below-y-requires : tie.Need-below-y-requires
 below-y-requires c κs = search needs
 
--- src/insert.rt:54:9
-put-requires : tie.Need-put-requires
-put-requires c κs = search needs
+store-requires : tie.Need-store-requires
+store-requires c κs =
+    let at-slot = c .before .before .before .before .before in
+    let at-start = at-slot .before .before .before .before in
+    omega (arith, at-slot .slot .ensures, at-start .pre .0, at-start .pre .2 .3)
 
--- src/insert.rt:55:34
 over-requires : tie.Need-over-requires
 over-requires c κs = search needs
 
--- src/insert.rt:55:9
-put-requires-2 : tie.Need-put-requires-2
-put-requires-2 c κs = search needs
+store-requires-2 : tie.Need-store-requires-2
+store-requires-2 c κs =
+    let at-record = c .before .before .before .before in
+    let at-slot = at-record .before .before .before .before .before .before in
+    let at-start = at-slot .before .before .before .before in
+    search (needs, at-start .pre .2 .1, at-record .store)
 
--- src/insert.rt:56:9
 same-length : tie.Need-same-length
 same-length c = search needs
 
--- src/insert.rt:56:9
 returns : tie.Need-returns
 unfolding split♯ nodeAt
-returns c = rw (← c .before .before .before .before .before .before .before .before .before .before .before .before .before .before .before .leaf .ensures, ← c .before .before .before .before .before .before .before .before .before .before .before .before .before .slot .ensures, ← c .before .before .before .before .before .before .before .before .before .before .before .mark-at .ensures, ← c .before .before .before .before .before .before .before .before .before .before .below-y .ensures, c .before .before .before .before .before .before .before .before .before .if1 .taken, ← c .before .before .before .before .before .before .before .put .ensures, ← c .before .before .before .over .ensures, ← c .before .before .put2 .ensures)
+returns c =
+    let at-put = c .before .before in
+    let at-over = at-put .before in
+    let at-record = at-over .before .before .before .before in
+    let at-side = at-record .before .before in
+    let at-below = at-side .before in
+    let at-mark = at-below .before in
+    let at-slot = at-mark .before .before in
+    let at-leaf = at-slot .before .before in
+    rw (
+      ← at-leaf .leaf .ensures,
+      ← at-slot .slot .ensures,
+      ← at-mark .load .ensures,
+      ← at-below .below-y .ensures,
+      at-side .if1 .taken,
+      ← at-record .store .ensures,
+      ← at-over .over .ensures,
+      ← at-put .store2 .ensures,
+    )
 
--- src/insert.rt:58:5
-put-requires-3 : tie.Need-put-requires-3
-put-requires-3 c κs = search needs
+store-requires-3 : tie.Need-store-requires-3
+store-requires-3 c κs =
+    let at-start = c .before .before .before .before .before .before .before .before .before in
+    omega (arith, at-start .pre .1, at-start .pre .2 .3)
 
--- src/insert.rt:59:30
 over-requires-2 : tie.Need-over-requires-2
 over-requires-2 c κs = search needs
 
--- src/insert.rt:59:5
-put-requires-4 : tie.Need-put-requires-4
-put-requires-4 c κs = search needs
+store-requires-4 : tie.Need-store-requires-4
+store-requires-4 c κs =
+    let at-record = c .before .before .before .before in
+    let at-slot = at-record .before .before .before .before .before .before in
+    let at-start = at-slot .before .before .before .before in
+    search (needs, at-start .pre .2 .1, at-record .store3)
 
--- src/insert.rt:46:1
 same-length-2 : tie.Need-same-length-2
 same-length-2 c = search needs
 
--- src/insert.rt:46:1
 returns-2 : tie.Need-returns-2
 unfolding split♯ nodeAt
-returns-2 c = rw (← c .before .before .before .before .before .before .before .before .before .before .before .before .before .before .before .leaf .ensures, ← c .before .before .before .before .before .before .before .before .before .before .before .before .before .slot .ensures, ← c .before .before .before .before .before .before .before .before .before .before .before .mark-at .ensures, ← c .before .before .before .before .before .before .before .before .before .before .below-y .ensures, c .before .before .before .before .before .before .before .before .before .if1 .left, ← c .before .before .before .before .before .before .before .put3 .ensures, ← c .before .before .before .over2 .ensures, ← c .before .before .put4 .ensures)
+returns-2 c =
+    let at-put = c .before .before in
+    let at-over = at-put .before in
+    let at-record = at-over .before .before .before .before in
+    let at-side = at-record .before .before in
+    let at-below = at-side .before in
+    let at-mark = at-below .before in
+    let at-slot = at-mark .before .before in
+    let at-leaf = at-slot .before .before in
+    rw (
+      ← at-leaf .leaf .ensures,
+      ← at-slot .slot .ensures,
+      ← at-mark .load .ensures,
+      ← at-below .below-y .ensures,
+      at-side .if1 .left,
+      ← at-record .store3 .ensures,
+      ← at-over .over2 .ensures,
+      ← at-put .store4 .ensures,
+    )
 
 pub split-spec : {M : Type 1} → statement M
 split-spec =
@@ -76,15 +115,15 @@ split-spec =
     (tie.spec
     leaf-requires
     slot-requires
-    mark-at-requires
+    load-requires
     below-y-requires
-    put-requires
+    store-requires
     over-requires
-    put-requires-2
+    store-requires-2
     same-length
     returns
-    put-requires-3
+    store-requires-3
     over-requires-2
-    put-requires-4
+    store-requires-4
     same-length-2
     returns-2)

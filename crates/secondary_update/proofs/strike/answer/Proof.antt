@@ -1,14 +1,13 @@
 use Rattle.secondary_update.proofs.strike.answer.Statement.{statement}
-use borrow.Author.Needs.{needs}
 use Rattle.secondary_update.specs.Updates.{strikeOf}
 use Rattle.secondary_update.proofs.strike.answer.Tie as tie
 use Rattle.secondary_update.proofs.strike.answer.Reads as reads
 use Rattle.secondary_update.proofs.strike.answer.Lts as lts
 
--- src/strike.rt:24:1
+-- src/strike.rt:33:1
 returns : tie.Need-returns
 unfolding strikeOf
-returns c = search needs
+returns c = cc
 
 pub answer-spec : {M : Type 1} → statement M
 answer-spec = tie.close (tie.spec returns)

@@ -5,11 +5,11 @@ use Rattle.secondary_update.proofs.strike.damaged.Reads as reads
 use Rattle.secondary_update.proofs.strike.damaged.Lts as lts
 use Rattle.nodes.proofs.secondary.SecondaryArm.none.Reads as none-reads
 
--- src/strike.rt:37:9
+-- src/strike.rt:46:9
 none-requires : tie.Need-none-requires
 none-requires c κs = search needs
 
--- src/strike.rt:34:1
+-- src/strike.rt:43:1
 returns : tie.Need-returns
 returns c = rw (← c .none .ensures)
 

@@ -1,79 +1,65 @@
 use borrow.Author.Needs.{needs}
 use Rattle.secondary_update.proofs.strike.strike.Statement.{statement}
-use Rattle.secondary_update.proofs.Cells.{strike-cell}
+use Rattle.secondary_update.specs.Strike.{auxiliaryStrike♯, strikeFrom}
+use borrow.Author.Tests.{le-ltb, lt-ltb}
 use Rattle.secondary_update.proofs.strike.strike.Tie as tie
 use Rattle.secondary_update.proofs.strike.strike.Reads as reads
 use Rattle.secondary_update.proofs.strike.strike.Lts as lts
-use Rattle.secondary_update.proofs.strike.strike_anywhere.Reads as strike-anywhere-reads
-use Rattle.secondary_update.proofs.strike.strike_inside.Reads as strike-inside-reads
-use Rattle.table.proofs.header.capacity.Reads as capacity-reads
+use Rattle.nodes.proofs.primary.PrimaryRecord.load_auxiliary.Reads as load-auxiliary-reads
+use Rattle.secondary_update.proofs.strike.damaged.Reads as damaged-reads
+use Rattle.secondary_update.proofs.strike.strike_beneath.Reads as strike-beneath-reads
 
--- src/strike.rt:236:9
-capacity-requires : tie.Need-capacity-requires
-capacity-requires c κs = search needs
+-- src/strike.rt:153:36
+mul-if1 : tie.Need-mul-if1
+mul-if1 c = search needs
 
--- src/strike.rt:238:23
-cast-if2 : tie.Need-cast-if2
-cast-if2 c = search needs
+-- src/strike.rt:153:18
+add-if1 : tie.Need-add-if1
+add-if1 c = search needs
 
--- src/strike.rt:238:17
-mul-if2 : tie.Need-mul-if2
-mul-if2 c = search needs
+-- src/strike.rt:154:9
+damaged-requires : tie.Need-damaged-requires
+damaged-requires c κs = search needs
 
--- src/strike.rt:238:12
-add-if2 : tie.Need-add-if2
-add-if2 c = search needs
+-- src/strike.rt:154:9
+returns : tie.Need-returns
+unfolding auxiliaryStrike♯ strikeFrom
+returns c = rw (lt-ltb _ _ (c .before .if1 .taken), ← c .damaged .ensures)
 
--- src/strike.rt:239:39
-cast-if3 : tie.Need-cast-if3
-cast-if3 c = search needs
+-- src/strike.rt:156:9
+load-auxiliary-requires : tie.Need-load-auxiliary-requires
+load-auxiliary-requires c κs = search needs
 
--- src/strike.rt:239:34
-mul-if3 : tie.Need-mul-if3
-mul-if3 c = search needs
+-- src/strike.rt:157:5
+strike-beneath-requires : tie.Need-strike-beneath-requires
+strike-beneath-requires c κs = search needs
 
--- src/strike.rt:239:16
-add-if3 : tie.Need-add-if3
-add-if3 c = search needs
-
--- src/strike.rt:240:17
-strike-inside-requires : tie.Need-strike-inside-requires
-strike-inside-requires c κs = search needs
-
--- src/strike.rt:240:17
+-- src/strike.rt:149:1
 same-length : tie.Need-same-length
 same-length c = search needs
 
--- src/strike.rt:240:17
-returns : tie.Need-returns
-returns c = rw (strike-cell, ← c .before .before .strike-inside .ensures)
-
--- src/strike.rt:253:5
-strike-anywhere-requires : tie.Need-strike-anywhere-requires
-strike-anywhere-requires c κs = search needs
-
--- src/strike.rt:233:1
-same-length-2 : tie.Need-same-length-2
-same-length-2 c = search needs
-
--- src/strike.rt:233:1
+-- src/strike.rt:149:1
 returns-2 : tie.Need-returns-2
-returns-2 c = rw (strike-cell, ← c .before .before .strike-anywhere .ensures)
+unfolding auxiliaryStrike♯ strikeFrom
+returns-2 c =
+    let at-strike-beneath = c .before .before in
+    let at-load-auxiliary = at-strike-beneath .before .before in
+    let at-if1 = at-load-auxiliary .before .before in
+    rw (
+      le-ltb _ _ (at-if1 .if1 .left),
+      ← at-load-auxiliary .load-auxiliary .ensures,
+      ← at-strike-beneath .strike-beneath .ensures,
+    )
 
 pub strike-spec : {M : Type 1} → statement M
 strike-spec =
     tie.close
     (tie.spec
-    capacity-requires
-    cast-if2
-    mul-if2
-    add-if2
-    cast-if3
-    mul-if3
-    add-if3
-    strike-inside-requires
-    same-length
+    mul-if1
+    add-if1
+    damaged-requires
     returns
-    strike-anywhere-requires
-    same-length-2
+    load-auxiliary-requires
+    strike-beneath-requires
+    same-length
     returns-2)

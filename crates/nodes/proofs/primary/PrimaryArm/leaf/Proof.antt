@@ -4,16 +4,21 @@ use Rattle.nodes.specs.Arms.{leafArm}
 use Rattle.nodes.proofs.primary.PrimaryArm.leaf.Tie as tie
 use Rattle.nodes.proofs.primary.PrimaryArm.leaf.Reads as reads
 use Rattle.nodes.proofs.primary.PrimaryArm.leaf.Lts as lts
-use Rattle.nodes.proofs.primary.Primary.leaf.Reads as leaf-reads
+use Rattle.nodes.proofs.arm.Arm.leaf.Reads as leaf-reads
+use Rattle.nodes.proofs.primary.PrimaryArm.of.Reads as of-reads
 
--- src/primary.rt:82:13
+-- src/primary.rt:95:24
 leaf-requires : tie.Need-leaf-requires
 leaf-requires c κs = search needs
 
--- src/primary.rt:79:5
+-- src/primary.rt:95:9
+of-requires : tie.Need-of-requires
+of-requires c κs = search needs
+
+-- src/primary.rt:92:5
 returns : tie.Need-returns
 unfolding leafArm
-returns c = rw (← c .leaf .ensures)
+returns c = rw (← c .before .leaf .ensures, ← c .of .ensures)
 
 pub leaf-spec : {M : Type 1} → statement M
-leaf-spec = tie.close (tie.spec leaf-requires returns)
+leaf-spec = tie.close (tie.spec leaf-requires of-requires returns)

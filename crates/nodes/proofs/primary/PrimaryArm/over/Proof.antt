@@ -1,25 +1,34 @@
 use borrow.Author.Needs.{needs}
 use Rattle.nodes.proofs.primary.PrimaryArm.over.Statement.{statement}
-use Rattle.nodes.specs.Arms.{overArm}
-use Rattle.table.specs.Weights.{sum}
 use Rattle.nodes.proofs.primary.PrimaryArm.over.Tie as tie
 use Rattle.nodes.proofs.primary.PrimaryArm.over.Reads as reads
 use Rattle.nodes.proofs.primary.PrimaryArm.over.Lts as lts
-use Rattle.nodes.proofs.primary.Primary.inner.Reads as inner-reads
-use Rattle.table.proofs.weights.sum.Reads as sum-reads
+use Rattle.nodes.proofs.arm.Arm.over.Reads as over-reads
+use Rattle.nodes.proofs.primary.PrimaryArm.bare.Reads as bare-reads
+use Rattle.nodes.proofs.primary.PrimaryArm.of.Reads as of-reads
 
--- src/primary.rt:95:13
-inner-requires : tie.Need-inner-requires
-inner-requires c κs = search needs
+-- src/primary.rt:102:40
+bare-requires : tie.Need-bare-requires
+bare-requires c κs = search needs
 
--- src/primary.rt:96:13
-sum-requires : tie.Need-sum-requires
-sum-requires c κs = search needs
+-- src/primary.rt:102:50
+bare-requires-2 : tie.Need-bare-requires-2
+bare-requires-2 c κs = search needs
 
--- src/primary.rt:92:5
+-- src/primary.rt:102:24
+over-requires : tie.Need-over-requires
+over-requires c κs = search needs
+
+-- src/primary.rt:102:9
+of-requires : tie.Need-of-requires
+of-requires c κs = search needs
+
+-- src/primary.rt:99:5
 returns : tie.Need-returns
-unfolding overArm
-returns c = rw (← c .before .inner .ensures, ← c .sum .ensures)
+returns c =
+    let at-bare2 = c .before .before in
+    let at-bare = at-bare2 .before in
+    rw (← at-bare .bare .ensures, ← at-bare2 .bare2 .ensures, ← c .before .over .ensures, ← c .of .ensures)
 
 pub over-spec : {M : Type 1} → statement M
-over-spec = tie.close (tie.spec inner-requires sum-requires returns)
+over-spec = tie.close (tie.spec bare-requires bare-requires-2 over-requires of-requires returns)

@@ -4,16 +4,21 @@ use Rattle.nodes.specs.Arms.{leafArm}
 use Rattle.nodes.proofs.secondary.SecondaryArm.leaf.Tie as tie
 use Rattle.nodes.proofs.secondary.SecondaryArm.leaf.Reads as reads
 use Rattle.nodes.proofs.secondary.SecondaryArm.leaf.Lts as lts
-use Rattle.nodes.proofs.secondary.Secondary.leaf.Reads as leaf-reads
+use Rattle.nodes.proofs.arm.Arm.leaf.Reads as leaf-reads
+use Rattle.nodes.proofs.secondary.SecondaryArm.of.Reads as of-reads
 
--- src/secondary.rt:70:13
+-- src/secondary.rt:94:26
 leaf-requires : tie.Need-leaf-requires
 leaf-requires c κs = search needs
 
--- src/secondary.rt:67:5
+-- src/secondary.rt:94:9
+of-requires : tie.Need-of-requires
+of-requires c κs = search needs
+
+-- src/secondary.rt:91:5
 returns : tie.Need-returns
 unfolding leafArm
-returns c = rw (← c .leaf .ensures)
+returns c = rw (← c .before .leaf .ensures, ← c .of .ensures)
 
 pub leaf-spec : {M : Type 1} → statement M
-leaf-spec = tie.close (tie.spec leaf-requires returns)
+leaf-spec = tie.close (tie.spec leaf-requires of-requires returns)

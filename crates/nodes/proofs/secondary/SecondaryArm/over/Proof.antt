@@ -1,25 +1,34 @@
 use borrow.Author.Needs.{needs}
 use Rattle.nodes.proofs.secondary.SecondaryArm.over.Statement.{statement}
-use Rattle.nodes.specs.Arms.{overArm}
-use Rattle.table.specs.Weights.{sum}
 use Rattle.nodes.proofs.secondary.SecondaryArm.over.Tie as tie
 use Rattle.nodes.proofs.secondary.SecondaryArm.over.Reads as reads
 use Rattle.nodes.proofs.secondary.SecondaryArm.over.Lts as lts
-use Rattle.nodes.proofs.secondary.Secondary.inner.Reads as inner-reads
-use Rattle.table.proofs.weights.sum.Reads as sum-reads
+use Rattle.nodes.proofs.arm.Arm.over.Reads as over-reads
+use Rattle.nodes.proofs.secondary.SecondaryArm.bare.Reads as bare-reads
+use Rattle.nodes.proofs.secondary.SecondaryArm.of.Reads as of-reads
 
--- src/secondary.rt:83:13
-inner-requires : tie.Need-inner-requires
-inner-requires c κs = search needs
+-- src/secondary.rt:101:42
+bare-requires : tie.Need-bare-requires
+bare-requires c κs = search needs
 
--- src/secondary.rt:84:13
-sum-requires : tie.Need-sum-requires
-sum-requires c κs = search needs
+-- src/secondary.rt:101:52
+bare-requires-2 : tie.Need-bare-requires-2
+bare-requires-2 c κs = search needs
 
--- src/secondary.rt:80:5
+-- src/secondary.rt:101:26
+over-requires : tie.Need-over-requires
+over-requires c κs = search needs
+
+-- src/secondary.rt:101:9
+of-requires : tie.Need-of-requires
+of-requires c κs = search needs
+
+-- src/secondary.rt:98:5
 returns : tie.Need-returns
-unfolding overArm
-returns c = rw (← c .before .inner .ensures, ← c .sum .ensures)
+returns c =
+    let at-bare2 = c .before .before in
+    let at-bare = at-bare2 .before in
+    rw (← at-bare .bare .ensures, ← at-bare2 .bare2 .ensures, ← c .before .over .ensures, ← c .of .ensures)
 
 pub over-spec : {M : Type 1} → statement M
-over-spec = tie.close (tie.spec inner-requires sum-requires returns)
+over-spec = tie.close (tie.spec bare-requires bare-requires-2 over-requires of-requires returns)

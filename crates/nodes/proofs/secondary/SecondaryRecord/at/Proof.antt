@@ -1,43 +1,44 @@
+use Rattle.nodes.specs.Arms.{arms, recordAt}
 use mathlib.Core.Path.{ap₂}
 use borrow.Author.Tests.{lt-leb}
-use Rattle.nodes.specs.Arms.{arms, recordAt}
 use borrow.Author.Needs.{needs}
 use Rattle.nodes.proofs.secondary.SecondaryRecord.at.Statement.{statement}
+use Rattle.nodes.specs.Arms.{recordAt}
 use Rattle.nodes.proofs.secondary.SecondaryRecord.at.Tie as tie
 use Rattle.nodes.proofs.secondary.SecondaryRecord.at.Reads as reads
 use Rattle.nodes.proofs.secondary.SecondaryRecord.at.Lts as lts
 use Rattle.nodes.proofs.secondary.SecondaryArm.none.Reads as none-reads
-use Rattle.nodes.proofs.secondary.SecondaryRecord.present.Reads as present-reads
+use Rattle.nodes.proofs.secondary.SecondaryRecord.load.Reads as load-reads
 
--- src/secondary.rt:178:30
+-- src/secondary.rt:195:30
 mul-if1 : tie.Need-mul-if1
 mul-if1 c = search needs
 
--- src/secondary.rt:178:12
+-- src/secondary.rt:195:12
 add-if1 : tie.Need-add-if1
 add-if1 c = search needs
 
--- src/secondary.rt:178:12
+-- src/secondary.rt:195:12
 add-if1-2 : tie.Need-add-if1-2
 add-if1-2 c = search needs
 
--- src/secondary.rt:179:13
-present-requires : tie.Need-present-requires
-present-requires c κs = search needs
+-- src/secondary.rt:196:13
+load-requires : tie.Need-load-requires
+load-requires c κs = search needs
 
--- src/secondary.rt:179:13
+-- src/secondary.rt:196:13
 returns : tie.Need-returns
 returns c = search needs
 
--- src/secondary.rt:181:13
+-- src/secondary.rt:198:13
 none-requires : tie.Need-none-requires
 none-requires c κs = search needs
 
--- src/secondary.rt:182:13
+-- src/secondary.rt:199:13
 none-requires-2 : tie.Need-none-requires-2
 none-requires-2 c κs = search needs
 
--- src/secondary.rt:175:5
+-- src/secondary.rt:192:5
 returns-2 : tie.Need-returns-2
 unfolding recordAt
 returns-2 c = rw (lt-leb _ _ (c .before .before .if1 .left)) (ap₂ arms (c .before .none .ensures) (c .none2 .ensures))
@@ -49,7 +50,7 @@ at-spec =
     mul-if1
     add-if1
     add-if1-2
-    present-requires
+    load-requires
     returns
     none-requires
     none-requires-2

@@ -1,165 +1,41 @@
-use Rattle.table.specs.Layout.{recordPlace}
-use Rattle.nodes.specs.Values.{secondaryArm}
-use Rattle.nodes.proofs.Stores.{putRecord-stores}
 use borrow.Author.Needs.{needs}
 use Rattle.nodes.proofs.secondary.SecondaryRecord.put.Statement.{statement}
 use borrow.Author.Tests.{lt-leb}
 use Rattle.nodes.specs.Arms.{putRecord}
-use lib.ListN.{length-set}
-use native.Mathlib.Omega.{arith}
 use Rattle.nodes.proofs.secondary.SecondaryRecord.put.Tie as tie
 use Rattle.nodes.proofs.secondary.SecondaryRecord.put.Reads as reads
 use Rattle.nodes.proofs.secondary.SecondaryRecord.put.Lts as lts
+use Rattle.nodes.proofs.secondary.SecondaryRecord.store.Reads as store-reads
 
--- src/secondary.rt:124:36
-mul-at : tie.Need-mul-at
-mul-at c = search needs
+-- src/secondary.rt:206:30
+mul-if1 : tie.Need-mul-if1
+mul-if1 c = search needs
 
--- src/secondary.rt:124:18
-add-at : tie.Need-add-at
-add-at c = search needs
-
--- src/secondary.rt:125:12
+-- src/secondary.rt:206:12
 add-if1 : tie.Need-add-if1
 add-if1 c = search needs
 
--- src/secondary.rt:128:13
-mul-t : tie.Need-mul-t
-mul-t c = search needs
+-- src/secondary.rt:206:12
+add-if1-2 : tie.Need-add-if1-2
+add-if1-2 c = search needs
 
--- src/secondary.rt:128:13
-slice-write-t : tie.Need-slice-write-t
-slice-write-t c = search needs
+-- src/secondary.rt:207:13
+store-requires : tie.Need-store-requires
+store-requires c κs = search needs
 
--- src/secondary.rt:129:15
-add-t : tie.Need-add-t
-add-t c = search needs
-
--- src/secondary.rt:129:13
-mul-t-2 : tie.Need-mul-t-2
-mul-t-2 c = search needs
-
--- src/secondary.rt:129:13
-slice-write-t-2 : tie.Need-slice-write-t-2
-slice-write-t-2 c = simp length-set (omega arith)
-
--- src/secondary.rt:130:15
-add-t-2 : tie.Need-add-t-2
-add-t-2 c = search needs
-
--- src/secondary.rt:130:13
-mul-t-3 : tie.Need-mul-t-3
-mul-t-3 c = search needs
-
--- src/secondary.rt:130:13
-slice-write-t-3 : tie.Need-slice-write-t-3
-slice-write-t-3 c = simp length-set (omega arith)
-
--- src/secondary.rt:131:15
-add-t-3 : tie.Need-add-t-3
-add-t-3 c = search needs
-
--- src/secondary.rt:131:13
-mul-t-4 : tie.Need-mul-t-4
-mul-t-4 c = search needs
-
--- src/secondary.rt:131:13
-slice-write-t-4 : tie.Need-slice-write-t-4
-slice-write-t-4 c = simp length-set (omega arith)
-
--- src/secondary.rt:132:15
-add-t-4 : tie.Need-add-t-4
-add-t-4 c = search needs
-
--- src/secondary.rt:132:13
-mul-t-5 : tie.Need-mul-t-5
-mul-t-5 c = search needs
-
--- src/secondary.rt:132:13
-slice-write-t-5 : tie.Need-slice-write-t-5
-slice-write-t-5 c = simp length-set (omega arith)
-
--- src/secondary.rt:133:15
-add-t-5 : tie.Need-add-t-5
-add-t-5 c = search needs
-
--- src/secondary.rt:133:13
-mul-t-6 : tie.Need-mul-t-6
-mul-t-6 c = search needs
-
--- src/secondary.rt:133:13
-slice-write-t-6 : tie.Need-slice-write-t-6
-slice-write-t-6 c = simp length-set (omega arith)
-
--- src/secondary.rt:134:15
-add-t-6 : tie.Need-add-t-6
-add-t-6 c = search needs
-
--- src/secondary.rt:134:13
-mul-t-7 : tie.Need-mul-t-7
-mul-t-7 c = search needs
-
--- src/secondary.rt:134:13
-slice-write-t-7 : tie.Need-slice-write-t-7
-slice-write-t-7 c = simp length-set (omega arith)
-
--- src/secondary.rt:135:15
-add-t-7 : tie.Need-add-t-7
-add-t-7 c = search needs
-
--- src/secondary.rt:135:13
-mul-t-8 : tie.Need-mul-t-8
-mul-t-8 c = search needs
-
--- src/secondary.rt:135:13
-slice-write-t-8 : tie.Need-slice-write-t-8
-slice-write-t-8 c = simp length-set (omega arith)
-
--- src/secondary.rt:121:5
+-- src/secondary.rt:203:5
 same-length : tie.Need-same-length
-same-length c = simp length-set
+same-length c = search needs
 
--- src/secondary.rt:121:5
+-- src/secondary.rt:203:5
 returns : tie.Need-returns
-returns c =
-    let a = c .before .before .before .args in
-    putRecord-stores (a .t .now) (recordPlace (a .base) (a .name)) (secondaryArm (a .l)) (secondaryArm (a .r)) (c .before .before .if1 .taken)
+returns c = search needs
 
--- src/secondary.rt:121:5
+-- src/secondary.rt:203:5
 returns-2 : tie.Need-returns-2
 unfolding putRecord
 returns-2 c = rw (lt-leb _ _ (c .if1 .left))
 
 pub put-spec : {M : Type 1} → statement M
 put-spec =
-    tie.close
-    (tie.spec
-    mul-at
-    add-at
-    add-if1
-    mul-t
-    slice-write-t
-    add-t
-    mul-t-2
-    slice-write-t-2
-    add-t-2
-    mul-t-3
-    slice-write-t-3
-    add-t-3
-    mul-t-4
-    slice-write-t-4
-    add-t-4
-    mul-t-5
-    slice-write-t-5
-    add-t-5
-    mul-t-6
-    slice-write-t-6
-    add-t-6
-    mul-t-7
-    slice-write-t-7
-    add-t-7
-    mul-t-8
-    slice-write-t-8
-    same-length
-    returns
-    returns-2)
+    tie.close (tie.spec mul-if1 add-if1 add-if1-2 store-requires same-length returns returns-2)

@@ -3,31 +3,49 @@ use Rattle.register.proofs.answers.Check.figures.Statement.{statement}
 use Rattle.register.proofs.answers.Check.figures.Tie as tie
 use Rattle.register.proofs.answers.Check.figures.Reads as reads
 use Rattle.register.proofs.answers.Check.figures.Lts as lts
+use Rattle.register.proofs.answers.TableFigures.refused.Reads as refused-reads
 
--- src/answers.rt:201:26
+-- src/answers.rt:191:26
 enum-known-self : tie.Need-enum-known-self
 enum-known-self c = search needs
 
--- src/answers.rt:202:32
+-- src/answers.rt:192:32
 enum-told : tie.Need-enum-told
 enum-told c = search needs
 
--- src/answers.rt:203:31
+-- src/answers.rt:192:32
+refused-requires : tie.Need-refused-requires
+refused-requires c κs = search needs
+
+-- src/answers.rt:193:31
 enum-told-2 : tie.Need-enum-told-2
 enum-told-2 c = search needs
 
--- src/answers.rt:197:5
+-- src/answers.rt:193:31
+refused-requires-2 : tie.Need-refused-requires-2
+refused-requires-2 c κs = search needs
+
+-- src/answers.rt:187:5
 returns : tie.Need-returns
 returns c = rw (c .before .self .given .1)
 
--- src/answers.rt:197:5
+-- src/answers.rt:187:5
 returns-2 : tie.Need-returns-2
-returns-2 c = rw (c .enum-told .given .1)
+returns-2 c = rw (c .before .enum-told .given .1, ← c .refused .ensures)
 
--- src/answers.rt:197:5
+-- src/answers.rt:187:5
 returns-3 : tie.Need-returns-3
-returns-3 c = rw (c .enum-told2 .given .1)
+returns-3 c = rw (c .before .enum-told2 .given .1, ← c .refused2 .ensures)
 
 pub figures-spec : {M : Type 1} → statement M
 figures-spec =
-    tie.close (tie.spec enum-known-self enum-told enum-told-2 returns returns-2 returns-3)
+    tie.close
+    (tie.spec
+    enum-known-self
+    enum-told
+    refused-requires
+    enum-told-2
+    refused-requires-2
+    returns
+    returns-2
+    returns-3)

@@ -3,46 +3,63 @@ use Rattle.register.proofs.answers.Listing.figures.Statement.{statement
 use Rattle.register.proofs.answers.Listing.figures.Tie as tie
 use Rattle.register.proofs.answers.Listing.figures.Reads as reads
 use Rattle.register.proofs.answers.Listing.figures.Lts as lts
+use Rattle.register.proofs.answers.ListFigures.refused.Reads as refused-reads
 
--- src/answers.rt:162:29
+-- src/answers.rt:172:29
 enum-known-self : tie.Need-enum-known-self
 enum-known-self c = search needs
 
--- src/answers.rt:168:34
+-- src/answers.rt:178:34
 enum-told : tie.Need-enum-told
 enum-told c = search needs
 
--- src/answers.rt:174:33
+-- src/answers.rt:178:34
+refused-requires : tie.Need-refused-requires
+refused-requires c κs = search needs
+
+-- src/answers.rt:179:33
 enum-told-2 : tie.Need-enum-told-2
 enum-told-2 c = search needs
+
+-- src/answers.rt:179:33
+refused-requires-2 : tie.Need-refused-requires-2
+refused-requires-2 c κs = search needs
 
 -- src/answers.rt:180:28
 enum-known-self-2 : tie.Need-enum-known-self-2
 enum-known-self-2 c = search needs
 
--- src/answers.rt:186:33
+-- src/answers.rt:180:38
+refused-requires-3 : tie.Need-refused-requires-3
+refused-requires-3 c κs = search needs
+
+-- src/answers.rt:181:33
 enum-told-3 : tie.Need-enum-told-3
 enum-told-3 c = search needs
 
--- src/answers.rt:158:5
+-- src/answers.rt:181:33
+refused-requires-4 : tie.Need-refused-requires-4
+refused-requires-4 c κs = search needs
+
+-- src/answers.rt:168:5
 returns : tie.Need-returns
 returns c = rw (c .before .self .given .1)
 
--- src/answers.rt:158:5
+-- src/answers.rt:168:5
 returns-2 : tie.Need-returns-2
-returns-2 c = rw (c .enum-told .given .1)
+returns-2 c = rw (c .before .enum-told .given .1, ← c .refused .ensures)
 
--- src/answers.rt:158:5
+-- src/answers.rt:168:5
 returns-3 : tie.Need-returns-3
-returns-3 c = rw (c .enum-told2 .given .1)
+returns-3 c = rw (c .before .enum-told2 .given .1, ← c .refused2 .ensures)
 
--- src/answers.rt:158:5
+-- src/answers.rt:168:5
 returns-4 : tie.Need-returns-4
-returns-4 c = rw (c .before .self2 .given .1)
+returns-4 c = rw (c .before .before .self2 .given .1, ← c .refused3 .ensures)
 
--- src/answers.rt:158:5
+-- src/answers.rt:168:5
 returns-5 : tie.Need-returns-5
-returns-5 c = rw (c .enum-told3 .given .1)
+returns-5 c = rw (c .before .enum-told3 .given .1, ← c .refused4 .ensures)
 
 pub figures-spec : {M : Type 1} → statement M
 figures-spec =
@@ -50,9 +67,13 @@ figures-spec =
     (tie.spec
     enum-known-self
     enum-told
+    refused-requires
     enum-told-2
+    refused-requires-2
     enum-known-self-2
+    refused-requires-3
     enum-told-3
+    refused-requires-4
     returns
     returns-2
     returns-3

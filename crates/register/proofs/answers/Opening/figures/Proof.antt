@@ -3,30 +3,49 @@ use Rattle.register.proofs.answers.Opening.figures.Statement.{statement
 use Rattle.register.proofs.answers.Opening.figures.Tie as tie
 use Rattle.register.proofs.answers.Opening.figures.Reads as reads
 use Rattle.register.proofs.answers.Opening.figures.Lts as lts
+use Rattle.register.proofs.answers.TableFigures.refused.Reads as refused-reads
 
--- src/answers.rt:77:32
+-- src/answers.rt:123:32
 enum-told : tie.Need-enum-told
 enum-told c = search needs
 
--- src/answers.rt:78:34
+-- src/answers.rt:124:34
 enum-told-2 : tie.Need-enum-told-2
 enum-told-2 c = search needs
 
--- src/answers.rt:79:31
+-- src/answers.rt:124:34
+refused-requires : tie.Need-refused-requires
+refused-requires c κs = search needs
+
+-- src/answers.rt:125:31
 enum-told-3 : tie.Need-enum-told-3
 enum-told-3 c = search needs
 
--- src/answers.rt:73:5
+-- src/answers.rt:125:31
+refused-requires-2 : tie.Need-refused-requires-2
+refused-requires-2 c κs = search needs
+
+-- src/answers.rt:119:5
 returns : tie.Need-returns
 returns c = rw (c .enum-told .given .1)
 
--- src/answers.rt:73:5
+-- src/answers.rt:119:5
 returns-2 : tie.Need-returns-2
-returns-2 c = rw (c .enum-told2 .given .1)
+returns-2 c = rw (c .before .enum-told2 .given .1, ← c .refused .ensures)
 
--- src/answers.rt:73:5
+-- src/answers.rt:119:5
 returns-3 : tie.Need-returns-3
-returns-3 c = rw (c .enum-told3 .given .1)
+returns-3 c = rw (c .before .enum-told3 .given .1, ← c .refused2 .ensures)
 
 pub figures-spec : {M : Type 1} → statement M
-figures-spec = tie.close (tie.spec enum-told enum-told-2 enum-told-3 returns returns-2 returns-3)
+figures-spec =
+    tie.close
+    (tie.spec
+    enum-told
+    enum-told-2
+    refused-requires
+    enum-told-3
+    refused-requires-2
+    returns
+    returns-2
+    returns-3)

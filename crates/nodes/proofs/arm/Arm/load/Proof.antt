@@ -1,0 +1,73 @@
+use Rattle.nodes.specs.Arms.{armAt}
+use borrow.Author.Tests.{le-leb}
+use borrow.Author.Needs.{needs}
+use Rattle.nodes.proofs.arm.Arm.load.Statement.{statement}
+use Rattle.nodes.proofs.arm.Arm.load.Tie as tie
+use Rattle.nodes.proofs.arm.Arm.load.Reads as reads
+use Rattle.nodes.proofs.arm.Arm.load.Lts as lts
+
+-- src/arm.rt:99:19
+mul-t3 : tie.Need-mul-t3
+mul-t3 c = search needs
+
+-- src/arm.rt:99:19
+shared-slice-read-t5 : tie.Need-shared-slice-read-t5
+shared-slice-read-t5 c = search needs
+
+-- src/arm.rt:100:23
+add-t6 : tie.Need-add-t6
+add-t6 c = search needs
+
+-- src/arm.rt:100:21
+mul-t7 : tie.Need-mul-t7
+mul-t7 c = search needs
+
+-- src/arm.rt:100:21
+shared-slice-read-t9 : tie.Need-shared-slice-read-t9
+shared-slice-read-t9 c = search needs
+
+-- src/arm.rt:101:22
+add-t10 : tie.Need-add-t10
+add-t10 c = search needs
+
+-- src/arm.rt:101:20
+mul-t11 : tie.Need-mul-t11
+mul-t11 c = search needs
+
+-- src/arm.rt:101:20
+shared-slice-read-t13 : tie.Need-shared-slice-read-t13
+shared-slice-read-t13 c = search needs
+
+-- src/arm.rt:102:25
+add-t14 : tie.Need-add-t14
+add-t14 c = search needs
+
+-- src/arm.rt:102:23
+mul-t15 : tie.Need-mul-t15
+mul-t15 c = search needs
+
+-- src/arm.rt:102:23
+shared-slice-read-t17 : tie.Need-shared-slice-read-t17
+shared-slice-read-t17 c = search needs
+
+-- src/arm.rt:94:5
+returns : tie.Need-returns
+unfolding armAt
+returns c = rw (le-leb _ _ (c .before .before .before .before .pre))
+
+pub load-spec : {M : Type 1} → statement M
+load-spec =
+    tie.close
+    (tie.spec
+    mul-t3
+    shared-slice-read-t5
+    add-t6
+    mul-t7
+    shared-slice-read-t9
+    add-t10
+    mul-t11
+    shared-slice-read-t13
+    add-t14
+    mul-t15
+    shared-slice-read-t17
+    returns)

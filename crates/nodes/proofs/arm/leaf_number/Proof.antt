@@ -1,0 +1,18 @@
+use borrow.Author.Needs.{needs}
+use Rattle.nodes.proofs.arm.leaf_number.Statement.{statement}
+use Rattle.nodes.specs.Arms.{leafNumber}
+use Rattle.nodes.proofs.arm.leaf_number.Tie as tie
+use Rattle.nodes.proofs.arm.leaf_number.Reads as reads
+use Rattle.nodes.proofs.arm.leaf_number.Lts as lts
+
+-- src/arm.rt:30:5
+mul-result : tie.Need-mul-result
+mul-result c = search needs
+
+-- src/arm.rt:27:1
+returns : tie.Need-returns
+unfolding leafNumber
+returns c = cc
+
+pub leaf-number-spec : {M : Type 1} → statement M
+leaf-number-spec = tie.close (tie.spec mul-result returns)

@@ -1,0 +1,22 @@
+use borrow.Author.Needs.{needs}
+use Rattle.nodes.proofs.primary.PrimaryArm.none.Statement.{statement}
+use Rattle.nodes.proofs.primary.PrimaryArm.none.Tie as tie
+use Rattle.nodes.proofs.primary.PrimaryArm.none.Reads as reads
+use Rattle.nodes.proofs.primary.PrimaryArm.none.Lts as lts
+use Rattle.nodes.proofs.arm.Arm.none.Reads as none-reads
+use Rattle.nodes.proofs.primary.PrimaryArm.of.Reads as of-reads
+
+-- src/primary.rt:88:24
+none-requires : tie.Need-none-requires
+none-requires c κs = search needs
+
+-- src/primary.rt:88:9
+of-requires : tie.Need-of-requires
+of-requires c κs = search needs
+
+-- src/primary.rt:85:5
+returns : tie.Need-returns
+returns c = rw (← c .before .none .ensures, ← c .of .ensures)
+
+pub none-spec : {M : Type 1} → statement M
+none-spec = tie.close (tie.spec none-requires of-requires returns)

@@ -1,0 +1,42 @@
+use borrow.Author.Needs.{needs}
+use Rattle.nodes.proofs.primary.PrimaryRecord.load.Statement.{statement}
+use Rattle.nodes.specs.Arms.{recordAt}
+use Rattle.nodes.proofs.primary.PrimaryRecord.load.Tie as tie
+use Rattle.nodes.proofs.primary.PrimaryRecord.load.Reads as reads
+use Rattle.nodes.proofs.primary.PrimaryRecord.load.Lts as lts
+use Rattle.nodes.proofs.arm.Record.load.Reads as load-reads
+use Rattle.nodes.proofs.primary.PrimaryArm.of.Reads as of-reads
+
+-- src/primary.rt:168:13
+add-load : tie.Need-add-load
+add-load c = search needs
+
+-- src/primary.rt:168:45
+mul-load : tie.Need-mul-load
+mul-load c = search needs
+
+-- src/primary.rt:168:13
+add-load-2 : tie.Need-add-load-2
+add-load-2 c = search needs
+
+-- src/primary.rt:166:13
+load-requires : tie.Need-load-requires
+load-requires c κs = search needs
+
+-- src/primary.rt:170:13
+of-requires : tie.Need-of-requires
+of-requires c κs = search needs
+
+-- src/primary.rt:171:13
+of-requires-2 : tie.Need-of-requires-2
+of-requires-2 c κs = search needs
+
+-- src/primary.rt:162:5
+returns : tie.Need-returns
+unfolding recordAt
+returns c = rw (← c .before .before .load .ensures, ← c .before .of .ensures, ← c .of2 .ensures)
+
+pub load-spec : {M : Type 1} → statement M
+load-spec =
+    tie.close
+    (tie.spec add-load mul-load add-load-2 load-requires of-requires of-requires-2 returns)

@@ -1,0 +1,36 @@
+use borrow.Author.Needs.{needs}
+use Rattle.nodes.proofs.secondary.SecondaryRecord.load.Statement.{statement}
+use Rattle.nodes.specs.Arms.{recordAt}
+use Rattle.nodes.proofs.secondary.SecondaryRecord.load.Tie as tie
+use Rattle.nodes.proofs.secondary.SecondaryRecord.load.Reads as reads
+use Rattle.nodes.proofs.secondary.SecondaryRecord.load.Lts as lts
+use Rattle.nodes.proofs.arm.Record.load.Reads as load-reads
+use Rattle.nodes.proofs.secondary.SecondaryArm.of.Reads as of-reads
+
+-- src/secondary.rt:165:51
+mul-load : tie.Need-mul-load
+mul-load c = search needs
+
+-- src/secondary.rt:165:33
+add-load : tie.Need-add-load
+add-load c = search needs
+
+-- src/secondary.rt:165:13
+load-requires : tie.Need-load-requires
+load-requires c κs = search needs
+
+-- src/secondary.rt:166:13
+of-requires : tie.Need-of-requires
+of-requires c κs = search needs
+
+-- src/secondary.rt:167:13
+of-requires-2 : tie.Need-of-requires-2
+of-requires-2 c κs = search needs
+
+-- src/secondary.rt:161:5
+returns : tie.Need-returns
+unfolding recordAt
+returns c = rw (← c .before .before .load .ensures, ← c .before .of .ensures, ← c .of2 .ensures)
+
+pub load-spec : {M : Type 1} → statement M
+load-spec = tie.close (tie.spec mul-load add-load load-requires of-requires of-requires-2 returns)

@@ -1,0 +1,44 @@
+use borrow.Author.Needs.{needs}
+use Rattle.nodes.proofs.secondary.SecondaryRecord.store.Statement.{statement}
+use Rattle.nodes.proofs.secondary.SecondaryRecord.store.Tie as tie
+use Rattle.nodes.proofs.secondary.SecondaryRecord.store.Reads as reads
+use Rattle.nodes.proofs.secondary.SecondaryRecord.store.Lts as lts
+use Rattle.nodes.proofs.arm.Record.store.Reads as store-reads
+use Rattle.nodes.proofs.secondary.SecondaryArm.bare.Reads as bare-reads
+
+-- src/secondary.rt:177:31
+mul-store : tie.Need-mul-store
+mul-store c = search needs
+
+-- src/secondary.rt:177:13
+add-store : tie.Need-add-store
+add-store c = search needs
+
+-- src/secondary.rt:178:13
+bare-requires : tie.Need-bare-requires
+bare-requires c κs = search needs
+
+-- src/secondary.rt:179:13
+bare-requires-2 : tie.Need-bare-requires-2
+bare-requires-2 c κs = search needs
+
+-- src/secondary.rt:175:9
+store-requires : tie.Need-store-requires
+store-requires c κs = search needs
+
+-- src/secondary.rt:171:5
+same-length : tie.Need-same-length
+same-length c = search needs
+
+-- src/secondary.rt:171:5
+returns : tie.Need-returns
+returns c =
+    let at-store = c .before .before in
+    let at-bare2 = at-store .before in
+    let at-bare = at-bare2 .before in
+    rw (← at-bare .bare .ensures, ← at-bare2 .bare2 .ensures, ← at-store .store .ensures)
+
+pub store-spec : {M : Type 1} → statement M
+store-spec =
+    tie.close
+    (tie.spec mul-store add-store bare-requires bare-requires-2 store-requires same-length returns)

@@ -1,0 +1,161 @@
+// Arms and records, of main and auxiliary trees alike (docs/LAYOUT.md): they have the same words, and the same is made of them. `primary` and `secondary` put their
+// own name around each, so that the one never goes in for the other. Words are loaded and stored where the caller knows them to be there.
+ghost use mathlib.Core.Path.{_≡_};
+ghost use Prim.Native.Nat.{_+_, _<_, _≤_, _^_};
+ghost use lib.ListN.{length};
+ghost use Rattle.table.specs.Layout.{armWidth, recordWidth};
+ghost use Rattle.nodes.specs.Arms.{leafNumber, innerNumber, noArm, leafArm, overArm, grownArm, armAt, putArm, recordAt, putRecord, childAt, renamed};
+ghost use Rattle.nodes.specs.Values.{armValue, recordValue};
+use crate::weights;
+use table::layout;
+use table::runs;
+use table::words;
+
+// What points to a tree: its root's number, its weight, and its cell along the tree's axis. Weight 0: no tree.
+pub struct Arm {
+    pub node: u32,
+    pub weight: u32,
+    pub least: u32,
+    pub greatest: u32,
+}
+
+// The arms of an inner node's children.
+pub struct Record {
+    pub left: Arm,
+    pub right: Arm,
+}
+
+// A node's number: 2 s for the leaf of slot s, 2 s + 1 for the inner node named s.
+pub fn leaf_number(s: u32) -> u32
+    ensures { λ r. ⌜ r ≡ leafNumber s ⌝ }
+{
+    2 * (s % 2147483648)
+}
+
+pub fn inner_number(name: u32) -> u32
+    ensures { λ r. ⌜ r ≡ innerNumber name ⌝ }
+{
+    2 * (name % 2147483648) + 1
+}
+
+// The name of a node once slot s is struck: the least slot left in its right child, if that was s.
+pub fn renamed(capacity: u32, name: u32, s: u32, first: u32) -> u32
+    requires { ⌜ name < capacity ⌝ }
+    ensures is { λ r. ⌜ r ≡ renamed capacity name s first ⌝ }
+    ensures within { λ r. ⌜ r < capacity ⌝ }
+{
+    if name == s {
+        return runs::as_slot(capacity, first);
+    }
+    name
+}
+
+impl Arm {
+    pub fn none() -> Arm
+        ensures { λ r. ⌜ armValue r ≡ noArm ⌝ }
+    {
+        Arm {
+            node: 0,
+            weight: 0,
+            least: 0,
+            greatest: 0,
+        }
+    }
+
+    // The leaf of slot s, at the coordinate v.
+    pub fn leaf(s: u32, v: u32) -> Arm
+        ensures { λ r. ⌜ armValue r ≡ leafArm s v ⌝ }
+    {
+        let node = leaf_number(s);
+        Arm {
+            node,
+            weight: 1,
+            least: v,
+            greatest: v,
+        }
+    }
+
+    // The inner node of that name over two trees.
+    pub fn over(name: u32, l: Arm, r: Arm) -> Arm
+        ensures { λ a. ⌜ armValue a ≡ overArm name (armValue l) (armValue r) ⌝ }
+    {
+        let node = inner_number(name);
+        let weight = weights::sum(l.weight, r.weight);
+        Arm {
+            node,
+            weight,
+            least: l.least,
+            greatest: r.greatest,
+        }
+    }
+
+    // The same root with one mark more, at the coordinate v.
+    pub fn grown(self, v: u32) -> Arm
+        ensures { λ r. ⌜ armValue r ≡ grownArm (armValue self) v ⌝ }
+    {
+        let weight = weights::sum(self.weight, 1);
+        let least = words::lesser(self.least, v);
+        let greatest = words::greater(self.greatest, v);
+        Arm {
+            node: self.node,
+            weight,
+            least,
+            greatest,
+        }
+    }
+
+    // The arm at the word `at`.
+    pub fn load(t: &[u32], at: usize) -> Arm
+        requires { ⌜ at + armWidth ≤ length (now t) ⌝ }
+        ensures { λ r. ⌜ armValue r ≡ armAt (now (t .entry)) at ⌝ }
+    {
+        Arm {
+            node: t[at],
+            weight: t[at + 1],
+            least: t[at + 2],
+            greatest: t[at + 3],
+        }
+    }
+
+    pub fn store(t: &mut [u32], at: usize, a: Arm)
+        requires { ⌜ at + armWidth ≤ length (now t) ⌝ }
+        ensures { λ _. ⌜ now (t .exit) ≡ putArm (now (t .entry)) at (armValue a) ⌝ }
+    {
+        t[at] = a.node;
+        t[at + 1] = a.weight;
+        t[at + 2] = a.least;
+        t[at + 3] = a.greatest;
+    }
+}
+
+impl Record {
+    // The record at the word `at`: the left arm, then the right one.
+    pub fn load(t: &[u32], at: usize) -> Record
+        requires { ⌜ at + recordWidth ≤ length (now t) ⌝ }
+        ensures { λ r. ⌜ recordValue r ≡ recordAt (now (t .entry)) at ⌝ }
+    {
+        let left = Arm::load(t, at);
+        let right = Arm::load(t, at + layout::ARM);
+        Record { left, right }
+    }
+
+    pub fn store(t: &mut [u32], at: usize, l: Arm, r: Arm)
+        requires { ⌜ at + recordWidth ≤ length (now t) ⌝ }
+        ensures { λ _. ⌜ now (t .exit) ≡ putRecord (now (t .entry)) at (armValue l) (armValue r) ⌝ }
+    {
+        Arm::store(t, at, l);
+        Arm::store(t, at + layout::ARM, r);
+    }
+
+    // Where the left, or the right, arm of the record at the word `at` stands.
+    pub fn child(at: usize, left: bool) -> usize
+        requires { ⌜ at < 2 ^ 39 ⌝ }
+        ensures is { λ r. ⌜ r ≡ childAt at left ⌝ }
+        ensures small { λ r. ⌜ r < 2 ^ 40 ⌝ }
+    {
+        if left {
+            return at;
+        }
+        at + layout::ARM
+    }
+}

@@ -1,5 +1,0 @@
-// Whole tables: emptying one, and inserting and striking a mark with its slot. What a sound table is stands in specs/Sound. Finding, counting and listing
-// are primary_search's.
-pub mod empty;
-pub mod insert;
-pub mod strike;

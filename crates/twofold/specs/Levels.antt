@@ -1,8 +1,0 @@
--- Where the level of the main tree's root begins, and the next after one that begins at `base`. Assumes nothing.
-use Prim.Native.Nat.{ℕ, _+_, _*_, _%_}
-
-unfoldable pub topLevel : ℕ → ℕ
-topLevel capacity = (64 + 32 * capacity) % 4294967296
-
-unfoldable pub deeper : ℕ → ℕ → ℕ
-deeper base capacity = (base + 16 * capacity) % 4294967296

@@ -1,0 +1,26 @@
+use borrow.Author.Needs.{needs}
+use Rattle.twofold_layout.proofs.levels.deeper.Statement.{statement}
+use Rattle.twofold_layout.specs.Levels.{deeper}
+use Rattle.twofold_layout.proofs.levels.deeper.Tie as tie
+use Rattle.twofold_layout.proofs.levels.deeper.Reads as reads
+use Rattle.twofold_layout.proofs.levels.deeper.Lts as lts
+
+-- src/levels.rt:16:23
+mul-result : tie.Need-mul-result
+mul-result c = search needs
+
+-- src/levels.rt:16:7
+add-result : tie.Need-add-result
+add-result c = search needs
+
+-- src/levels.rt:16:5
+cast-result : tie.Need-cast-result
+cast-result c = search needs
+
+-- src/levels.rt:13:1
+returns : tie.Need-returns
+unfolding deeper
+returns c = search needs
+
+pub deeper-spec : {M : Type 1} → statement M
+deeper-spec = tie.close (tie.spec mul-result add-result cast-result returns)

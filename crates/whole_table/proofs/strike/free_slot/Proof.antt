@@ -1,0 +1,80 @@
+use borrow.Author.Needs.{needs}
+use Rattle.whole_table.proofs.strike.free_slot.Statement.{statement}
+use Rattle.whole_table.specs.Strike.{exchanged, freeSlot♯, freeWithin}
+use Rattle.whole_table.proofs.strike.free_slot.Tie as tie
+use Rattle.whole_table.proofs.strike.free_slot.Reads as reads
+use Rattle.whole_table.proofs.strike.free_slot.Lts as lts
+use Rattle.table.proofs.header.capacity.Reads as capacity-reads
+use Rattle.table.proofs.header.live.Reads as live-reads
+use Rattle.table.proofs.header.put_live.Reads as put-live-reads
+use Rattle.table.proofs.runs.place.Reads as place-reads
+use Rattle.table.proofs.runs.put_place.Reads as put-place-reads
+use Rattle.table.proofs.runs.put_used.Reads as put-used-reads
+use Rattle.table.proofs.runs.used.Reads as used-reads
+use Rattle.nodes.proofs.weights.fewer.Reads as fewer-reads
+
+-- src/strike.rt:15:9
+capacity-requires : tie.Need-capacity-requires
+capacity-requires c κs = search needs
+
+-- src/strike.rt:16:31
+live-requires : tie.Need-live-requires
+live-requires c κs = search needs
+
+-- src/strike.rt:16:9
+fewer-requires : tie.Need-fewer-requires
+fewer-requires c κs = search needs
+
+-- src/strike.rt:17:9
+place-requires : tie.Need-place-requires
+place-requires c κs = search needs
+
+-- src/strike.rt:18:9
+used-requires : tie.Need-used-requires
+used-requires c κs = search needs
+
+-- src/strike.rt:19:5
+put-used-requires : tie.Need-put-used-requires
+put-used-requires c κs = search needs
+
+-- src/strike.rt:20:5
+put-place-requires : tie.Need-put-place-requires
+put-place-requires c κs = search needs
+
+-- src/strike.rt:21:5
+put-used-requires-2 : tie.Need-put-used-requires-2
+put-used-requires-2 c κs = search needs
+
+-- src/strike.rt:22:5
+put-place-requires-2 : tie.Need-put-place-requires-2
+put-place-requires-2 c κs = search needs
+
+-- src/strike.rt:23:5
+put-live-requires : tie.Need-put-live-requires
+put-live-requires c κs = search needs
+
+-- src/strike.rt:12:1
+same-length : tie.Need-same-length
+same-length c = search needs
+
+-- src/strike.rt:12:1
+returns : tie.Need-returns
+unfolding freeSlot♯ freeWithin exchanged
+returns c = rw (← c .before .before .before .before .before .before .before .before .before .before .before .before .before .before .before .before .before .before .before .before .before .before .before .before .before .before .before .capacity .ensures, ← c .before .before .before .before .before .before .before .before .before .before .before .before .before .before .before .before .before .before .before .before .before .before .before .before .before .live .ensures, ← c .before .before .before .before .before .before .before .before .before .before .before .before .before .before .before .before .before .before .before .before .before .before .before .before .fewer .ensures, ← c .before .before .before .before .before .before .before .before .before .before .before .before .before .before .before .before .before .before .before .before .before .before .place .ensures, ← c .before .before .before .before .before .before .before .before .before .before .before .before .before .before .before .before .before .before .before .before .used .ensures, ← c .before .before .before .before .before .before .before .before .before .before .before .before .before .before .before .before .before .before .put-used .ensures, ← c .before .before .before .before .before .before .before .before .before .before .before .before .before .before .put-place .ensures, ← c .before .before .before .before .before .before .before .before .before .before .put-used2 .ensures, ← c .before .before .before .before .before .before .put-place2 .ensures, ← c .before .before .put-live .ensures)
+
+pub free-slot-spec : {M : Type 1} → statement M
+free-slot-spec =
+    tie.close
+    (tie.spec
+    capacity-requires
+    live-requires
+    fewer-requires
+    place-requires
+    used-requires
+    put-used-requires
+    put-place-requires
+    put-used-requires-2
+    put-place-requires-2
+    put-live-requires
+    same-length
+    returns)

@@ -1,0 +1,32 @@
+use borrow.Author.Needs.{needs}
+use Rattle.whole_table.proofs.strike.strike.Statement.{statement}
+use Rattle.whole_table.specs.Strike.{struck, tableStrike♯}
+use Rattle.whole_table.proofs.strike.strike.Tie as tie
+use Rattle.whole_table.proofs.strike.strike.Reads as reads
+use Rattle.whole_table.proofs.strike.strike.Lts as lts
+use Rattle.primary_strike.proofs.strike.strike.Reads as strike-reads
+use Rattle.whole_table.proofs.strike.free_slot.Reads as free-slot-reads
+
+-- src/strike.rt:32:9
+strike-requires : tie.Need-strike-requires
+strike-requires c κs = search needs
+
+-- src/strike.rt:33:5
+free-slot-requires : tie.Need-free-slot-requires
+free-slot-requires c κs = search needs
+
+-- src/strike.rt:28:1
+same-length : tie.Need-same-length
+same-length c = search needs
+
+-- src/strike.rt:28:1
+returns : tie.Need-returns
+unfolding tableStrike♯ struck
+returns c =
+    let at-free-slot = c .before .before in
+    let at-strike = at-free-slot .before .before .before .before in
+    let at-start = at-strike .before .before .before in
+    rw (← at-start .pre .0, ← at-strike .strike .ensures, ← at-free-slot .free-slot .ensures)
+
+pub strike-spec : {M : Type 1} → statement M
+strike-spec = tie.close (tie.spec strike-requires free-slot-requires same-length returns)
