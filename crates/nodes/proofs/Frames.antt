@@ -6,11 +6,10 @@ use mathlib.Core.Logic.{_⊎_, inl, inr}
 use native.Mathlib.Omega.{arith}
 use lib.ListN.{length, getD, set, length-set}
 use lib.Seq.{sets, length-sets, getD-set-same}
-use borrow.Author.Tests.{le-leb}
-use Rattle.table.specs.Layout.{slotPlace, mainPlace, runPlace, recordPlace, levelEnd}
+use Rattle.table.specs.Layout.{armWidth, recordWidth, slotPlace, mainPlace, runPlace, recordPlace, levelEnd}
 use Rattle.table.specs.Marks.{slotMark}
-use Rattle.nodes.specs.Arms.{Arm, arms, recordAt, putArm, putRecord}
-use Rattle.nodes.proofs.Unchanged.{Off, Apart, Unchanged, unchanged-weaken, unchanged-record, unchanged-mark}
+use Rattle.nodes.specs.Arms.{Arm, armWords, armAt, putArm, arms, recordAt, putRecord}
+use Rattle.nodes.proofs.Unchanged.{Off, Apart, Unchanged, unchanged-weaken, unchanged-arm, unchanged-record, unchanged-mark}
 use Rattle.nodes.proofs.Unchanged.{sets-unchanged, putArm-unchanged, putRecord-unchanged}
 
 -- a run of stores reads as what was stored
@@ -109,25 +108,27 @@ module _ {place : ℕ → ℕ} {C n : ℕ} (g : Region place C n) {P : ℕ → T
   pub frame-header : (i : ℕ) → i < 64 → getD ys i 0 ≡ getD xs i 0
   frame-header i h = a .same i (λ q p. omega (arith, g .afterHeader q (inC q p)), omega arith)
 
--- a record written and read again
-pub putRecord-same : (place : ℕ → ℕ) (xs : List ℕ) (name : ℕ) (l r : Arm) → place name + 8 ≤ length xs
-    → recordAt (putRecord xs (place name) l r) (place name) ≡ arms l r
-unfolding recordAt putRecord
-putRecord-same place xs name l r room =
-    let at = place name in
-    let vs : List ℕ = l .node ∷ l .weight ∷ l .least ∷ l .greatest ∷ r .node ∷ r .weight ∷ r .least ∷ r .greatest ∷ [] in
+-- THE CODEC: an arm, and a record, written and read again
+pub putArm-same : (xs : List ℕ) (at : ℕ) (a : Arm) → at + armWidth ≤ length xs → armAt (putArm xs at a) at ≡ a
+unfolding armAt putArm
+putArm-same xs at a room =
     let e : at + 0 ≡ at = omega arith in
-    let w0 : getD (sets xs at vs) at 0 ≡ l .node = ap (λ i. getD (sets xs at vs) i 0) (sym e) ∙ sets-at vs xs at 0 (omega arith) room in
+    let first : getD (sets xs at (armWords a)) at 0 ≡ a .node =
+    ap (λ i. getD (sets xs at (armWords a)) i 0) (sym e) ∙ sets-at (armWords a) xs at 0 (omega arith) room in
     rw (
-      le-leb (at + 8) (length xs) room,
-      length-sets xs at vs,
-      le-leb (at + 8) (length xs) room,
-      w0,
-      sets-at vs xs at 1 (omega arith) room,
-      sets-at vs xs at 2 (omega arith) room,
-      sets-at vs xs at 3 (omega arith) room,
-      sets-at vs xs at 4 (omega arith) room,
-      sets-at vs xs at 5 (omega arith) room,
-      sets-at vs xs at 6 (omega arith) room,
-      sets-at vs xs at 7 (omega arith) room,
+      first,
+      sets-at (armWords a) xs at 1 (omega arith) room,
+      sets-at (armWords a) xs at 2 (omega arith) room,
+      sets-at (armWords a) xs at 3 (omega arith) room,
+    )
+
+pub putRecord-same : (xs : List ℕ) (at : ℕ) (l r : Arm) → at + recordWidth ≤ length xs → recordAt (putRecord xs at l r) at ≡ arms l r
+unfolding recordAt putRecord
+putRecord-same xs at l r room =
+    let ys = putArm xs at l in
+    let n = putArm-unchanged xs at l .long in
+    rw (
+      unchanged-arm (putArm-unchanged ys (at + armWidth) r) at (λ i lo hi. omega arith),
+      putArm-same xs at l (omega arith),
+      putArm-same ys (at + armWidth) r (omega (arith, n)),
     )

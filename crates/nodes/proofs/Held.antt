@@ -176,7 +176,7 @@ module _ {I : Type 0} (A : Axis Mark Box) (f : ℕ → Mark) where
         held-frame (omega arith) (omega arith) fr (λ s e. rw e inC) l
         (λ s e. inl (let p = subst (λ k. 0 < times k r) (sym e) (times-least r) in omega (arith, d s))) hl in
         let kr : Held A f place C ys r = held-frame (omega arith) (omega arith) fr (λ s e. rw e inC) r (λ s e. inr e) hr in
-        held-over i l r (putRecord-same place xs name (armOf A f l) (armOf A f r) room) kl kr d
+        held-over i l r (putRecord-same xs (place name) (armOf A f l) (armOf A f r) room) kl kr d
 
 -- What an operation leaves: the arm of a tree that the words hold, and all words as they were but for the records of the tree's names and run A.
 pub record Leaves {I : Type 0} (A : Axis Mark Box) (f : ℕ → Mark) (place : ℕ → ℕ) (C : ℕ) (xs : List ℕ) (a : Arm) (ys : List ℕ) (t : Tree ℕ I) : Type 0 where

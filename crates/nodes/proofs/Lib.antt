@@ -5,7 +5,6 @@ pub mod Counting
 pub mod Held
 pub mod Spots
 pub mod Levels
-pub mod Missing
 pub mod Searching
 pub mod Without
 pub mod Turns

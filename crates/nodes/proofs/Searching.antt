@@ -1,37 +1,26 @@
 -- On words that hold an ordered tree, the mirror of a count adds the model's figures to any kind of tally: for main and auxiliary trees alike. Assumes nothing.
-use Prim.Native.Nat.{ℕ, zero, suc, _+_, _*_, _/_, _≤_}
+use Prim.Native.Nat.{ℕ, zero, suc, _+_, _*_, _/_, _≤_, _<_}
 use mathlib.Core.Path.{_≡_, ap, sym, _∙_}
 use mathlib.Core.Bool.{Bool, true, false, not}
 use mathlib.Core.List.{List, _++_}
 use native.Mathlib.Omega.{arith}
-use borrow.Author.Tests.{leb-true, le-ltb}
-use lib.Dec.{leb}
-use lib.ListN.{length}
-use Rattle.model.specs.Lists.{if_then_else_}
+use borrow.Author.Tests.{lt-leb}
 use Rattle.model.specs.Axis.{Axis}
 use Rattle.model.specs.Register.{Found, Register}
-use Rattle.model.specs.Tree.{Tree, leaf, node, depth, weight, marks, least, greatest}
+use Rattle.model.specs.Tree.{Tree, leaf, node, depth, marks, least, greatest}
 use Rattle.model.specs.Search.{inside, clear, arrive, together, search}
 use Rattle.model.specs.Sheet.{Mark, Box, sheet}
 use Rattle.model.specs.Slots.{slotSpace, slotAxis}
 use Rattle.model.specs.Laws.{AxisLaws, Straight, Sorted}
 use Rattle.model.proofs.Logic.{by-cases, clash, and-left, and-right, or-true-right}
 use Rattle.model.proofs.Sorted.{sorted-left, sorted-right}
-use Rattle.model.proofs.Tree.{weight-pos, all-least}
+use Rattle.model.proofs.Tree.{all-least}
 use Rattle.model.proofs.Search.{cell-ordered, cells-follow, clear-none}
 use Rattle.table.specs.Tally.{visited}
-use Rattle.nodes.specs.Arms.{Arm, Record, arms, recordMissing, recordAt}
+use Rattle.nodes.specs.Arms.{Record, arms, recordAt}
 use Rattle.nodes.specs.Holds.{number, armOf}
-use Rattle.nodes.specs.Count.{Kind, added, Side, sideAlong, lowRecord, lowNode, lowFrom, highRecord, highNode, highFrom, lowEnd, highEnd, openRecord, openNode, openFrom, countTree}
-
--- a record that is read as the arms of two trees is there: no tree weighs nothing
-record-there : {I : Type 0} (A : Axis Mark Box) (f : ℕ → Mark) (xs : List ℕ) (at : ℕ) (l r : Tree ℕ I) → recordAt xs at ≡ arms (armOf A f l) (armOf A f r)
-    → recordMissing xs at ≡ false
-unfolding recordMissing recordAt
-record-there A f xs at l r e =
-    by-cases (leb (at + 8) (length xs))
-    (λ t. le-ltb (length xs) (at + 8) (leb-true (at + 8) (length xs) t))
-    (λ t. let z = ap (λ p. p .left .weight) (rw t at e) in absurd (omega (arith, z, weight-pos l)))
+use Rattle.nodes.specs.Count.{Kind, added, Side, sideAlong, lowRecord, lowNode, lowFrom, highRecord, highNode, highFrom, lowEnd, highEnd}
+use Rattle.nodes.specs.Count.{openRecord, openNode, openFrom, countTree}
 
 -- a cell that begins past the side is clear of it
 pub clear-past : {M I : Type 0} (A : Axis M Box) (b : Box) (t : Tree M I) → A .toHigh b (A .at (least t)) ≡ false → clear A b t ≡ true
@@ -39,7 +28,7 @@ clear-past A b t e = or-true-right (not (A .fromLow b (A .at (greatest t)))) (no
 
 -- T is a tally, onto which a count's figures are added: those of two trees one after the other, in either order, and those of a node after its own visit
 module _ {I T : Type 0} (K : Kind T) (X : Axis Mark Box) (b : Box) (f : ℕ → Mark) (R : Register ℕ Box I) (O : AxisLaws (slotSpace f sheet) (slotAxis f X))
-    (xs : List ℕ) (add : Found → T → T) (add-both : (g h : Found) (tally : T) → add (together g h) tally ≡ add h (add g tally))
+    (C : ℕ) (xs : List ℕ) (add : Found → T → T) (add-both : (g h : Found) (tally : T) → add (together g h) tally ≡ add h (add g tally))
     (add-swap : (g h : Found) (tally : T) → add g (add h tally) ≡ add h (add g tally))
     (add-arrive : (g : Found) (tally : T) → add (arrive g) tally ≡ add g (K .visit tally)) where
   abbrev S : Side
@@ -92,18 +81,22 @@ module _ {I T : Type 0} (K : Kind T) (X : Axis Mark Box) (b : Box) (f : ℕ → 
       clash e (rw (p, q)))
       (λ t. rw (t, e))
 
-  -- what the arrival at a tree makes of a tally where the tree is inside the side, clear of it, begins past it: its figures are added
+  -- what the arrival at a tree makes of a tally where the tree is inside the side, ends before it, begins past it: its figures are added
   pub record Arrives (base : ℕ) (t : Tree ℕ I) : Type 0 where
     pub takes : inside A b t ≡ true → (tally : T) → K .take base (armOf X f t) tally ≡ add (found t) tally
-    pub skips : clear A b t ≡ true → (tally : T) → K .skip (armOf X f t) tally ≡ add (found t) tally
-    pub passes : goesOn t ≡ false → (tally : T) → K .visit tally ≡ add (found t) tally
+    pub skips : begins t ≡ false → (tally : T) → K .before (armOf X f t) tally ≡ add (found t) tally
+    pub passes : goesOn t ≡ false → (tally : T) → K .past tally ≡ add (found t) tally
 
-  -- the words hold a tree whose level begins at a word, and what stands beneath it
+  -- the record of a node over two trees is there and right
+  pub record Opens (base : ℕ) (l r : Tree ℕ I) : Type 0 where
+    pub within : least r < C
+    pub children : recordAt xs (K .place base (least r)) ≡ arms (armOf X f l) (armOf X f r)
+
+  -- the words of a table of capacity C hold a tree whose level begins at a word, and what stands beneath it
   abbrev pub Laid : ℕ → Tree ℕ I → Type 0
   Laid base (leaf s) = Arrives base (leaf s)
   Laid base (node i l r) =
-      (recordAt xs (K .place base (least r)) ≡ arms (armOf X f l) (armOf X f r))
-      × Arrives base (node i l r) × Laid (K .deeper base) l × Laid (K .deeper base) r
+      Opens base l r × Arrives base (node i l r) × Laid (K .deeper base) l × Laid (K .deeper base) r
 
   laid-arrives : (base : ℕ) (t : Tree ℕ I) → Laid base t → Arrives base t
   laid-arrives base (leaf s) h = h
@@ -117,28 +110,28 @@ module _ {I T : Type 0} (K : Kind T) (X : Axis Mark Box) (b : Box) (f : ℕ → 
       ap (λ g. add g tally) is ∙ add-arrive (together (found l) (found r)) tally ∙ add-both (found l) (found r) (K .visit tally)
 
   -- one node of each walk, on words that hold its record
-  module _ (base : ℕ) (l r : Tree ℕ I) (e : recordAt xs (K .place base (least r)) ≡ arms (armOf X f l) (armOf X f r)) where
+  module _ (base : ℕ) (l r : Tree ℕ I) (o : Opens base l r) where
     abbrev both : Record
     both = arms (armOf X f l) (armOf X f r)
 
     half : (2 * least r + 1) / 2 ≡ least r
     half = omega arith
 
-    low-node : (n : ℕ) (tally : T) → lowFrom K S xs (suc n) base (2 * least r + 1) tally ≡ lowRecord K S (lowFrom K S xs n) base both tally
+    low-node : (n : ℕ) (tally : T) → lowFrom K S C xs (suc n) base (2 * least r + 1) tally ≡ lowRecord K S (lowFrom K S C xs n) base both tally
     unfolding lowFrom lowNode
-    low-node n tally = rw (half, record-there X f xs (K .place base (least r)) l r e, e)
+    low-node n tally = rw (half, lt-leb C (least r) (o .within), o .children)
 
-    high-node : (n : ℕ) (tally : T) → highFrom K S xs (suc n) base (2 * least r + 1) tally ≡ highRecord K S (highFrom K S xs n) base both tally
+    high-node : (n : ℕ) (tally : T) → highFrom K S C xs (suc n) base (2 * least r + 1) tally ≡ highRecord K S (highFrom K S C xs n) base both tally
     unfolding highFrom highNode
-    high-node n tally = rw (half, record-there X f xs (K .place base (least r)) l r e, e)
+    high-node n tally = rw (half, lt-leb C (least r) (o .within), o .children)
 
-    open-node : (n : ℕ) (tally : T) → openFrom K S xs (suc n) base (2 * least r + 1) tally ≡ openRecord K S xs (openFrom K S xs n) base both tally
+    open-node : (n : ℕ) (tally : T) → openFrom K S C xs (suc n) base (2 * least r + 1) tally ≡ openRecord K S C xs (openFrom K S C xs n) base both tally
     unfolding openFrom openNode
-    open-node n tally = rw (half, record-there X f xs (K .place base (least r)) l r e, e)
+    open-node n tally = rw (half, lt-leb C (least r) (o .within), o .children)
 
   -- beneath a node in which the side begins, and which ends on it, once it is visited
   low-adds : (n base : ℕ) (t : Tree ℕ I) → depth t ≤ n → Laid base t → Ordered t → begun t ≡ false → begins t ≡ true → lasts t ≡ true
-      → (tally : T) → lowFrom K S xs n base (number t) (K .visit tally) ≡ add (found t) tally
+      → (tally : T) → lowFrom K S C xs n base (number t) (K .visit tally) ≡ add (found t) tally
   unfolding lowRecord
   low-adds n base (leaf m) d h s o p q tally = clash p o
   low-adds zero base (node i l r) d h s o p q tally = absurd (omega arith)
@@ -151,8 +144,9 @@ module _ {I T : Type 0} (K : Kind T) (X : Axis Mark Box) (b : Box) (f : ℕ → 
       low-node base l r (h .0) n here
       ∙ by-cases (begins l)
       (λ t. rw (t, ar .takes (rw (begins-begun l r s t, q)) here)
-      (low-adds n (K .deeper base) l (omega arith) (h .2) sl o t (goesOn-lasts l r s (lasts-goesOn r sr q)) (add (found r) here) ∙ add-swap (found l) (found r) here))
-      (λ t. rw (t, al .skips (rw t) here)
+      (low-adds n (K .deeper base) l (omega arith) (h .2) sl o t (goesOn-lasts l r s (lasts-goesOn r sr q)) (add (found r) here)
+      ∙ add-swap (found l) (found r) here))
+      (λ t. rw (t, al .skips t here)
       (by-cases (begun r)
       (λ u. rw (u, ar .takes (rw (u, q)) (add (found l) here)))
       (λ u. rw (u, low-adds n (K .deeper base) r (omega arith) (h .3) sr u p q (add (found l) here)))))
@@ -160,7 +154,7 @@ module _ {I T : Type 0} (K : Kind T) (X : Axis Mark Box) (b : Box) (f : ℕ → 
 
   -- beneath a node that begins on the side, and in which it ends, once it is visited
   high-adds : (n base : ℕ) (t : Tree ℕ I) → depth t ≤ n → Laid base t → Ordered t → begun t ≡ true → goesOn t ≡ true → lasts t ≡ false
-      → (tally : T) → highFrom K S xs n base (number t) (K .visit tally) ≡ add (found t) tally
+      → (tally : T) → highFrom K S C xs n base (number t) (K .visit tally) ≡ add (found t) tally
   unfolding highRecord
   high-adds n base (leaf m) d h s o p q tally = clash p q
   high-adds zero base (node i l r) d h s o p q tally = absurd (omega arith)
@@ -179,13 +173,13 @@ module _ {I T : Type 0} (K : Kind T) (X : Axis Mark Box) (b : Box) (f : ℕ → 
       ))
       (λ t. rw t
       (by-cases (lasts l)
-      (λ u. rw (u, al .takes (rw (o, u)) (K .visit here), ar .passes t here) (add-swap (found l) (found r) here))
-      (λ u. rw (u, high-adds n (K .deeper base) l (omega arith) (h .2) sl o p u (K .visit here), ar .passes t here) (add-swap (found l) (found r) here))))
+      (λ u. rw (u, al .takes (rw (o, u)) (K .past here), ar .passes t here) (add-swap (found l) (found r) here))
+      (λ u. rw (u, high-adds n (K .deeper base) l (omega arith) (h .2) sl o p u (K .past here), ar .passes t here) (add-swap (found l) (found r) here))))
       ∙ sym (opened-adds i l r (rw (o, q)) (rw (begun-begins (node i l r) s o, p)) tally)
 
   -- the two children of a node where the ends of the side part
   low-end-adds : (base : ℕ) (t : Tree ℕ I) → depth t ≤ 40 → Laid base t → Ordered t → lasts t ≡ true
-      → (tally : T) → lowEnd K S xs base (armOf X f t) tally ≡ add (found t) tally
+      → (tally : T) → lowEnd K S C xs base (armOf X f t) tally ≡ add (found t) tally
   unfolding lowEnd
   low-end-adds base t d h s q tally =
       let a = laid-arrives base t h in
@@ -193,10 +187,10 @@ module _ {I T : Type 0} (K : Kind T) (X : Axis Mark Box) (b : Box) (f : ℕ → 
       (λ p. by-cases (begun t)
       (λ o. rw (p, o) (a .takes (rw (o, q)) tally))
       (λ o. rw (p, o) (low-adds 40 base t d h s o p q tally)))
-      (λ p. rw p (a .skips (rw p) tally))
+      (λ p. rw p (a .skips p tally))
 
   high-end-adds : (base : ℕ) (t : Tree ℕ I) → depth t ≤ 40 → Laid base t → Ordered t → begun t ≡ true
-      → (tally : T) → highEnd K S xs base (armOf X f t) tally ≡ add (found t) tally
+      → (tally : T) → highEnd K S C xs base (armOf X f t) tally ≡ add (found t) tally
   unfolding highEnd
   high-end-adds base t d h s o tally =
       let a = laid-arrives base t h in
@@ -213,13 +207,6 @@ module _ {I T : Type 0} (K : Kind T) (X : Axis Mark Box) (b : Box) (f : ℕ → 
       (λ t. let u : A .toHigh b (A .at m) ≡ false = (rw t at e) in rw (t, u))
       (λ t. rw t)
 
-  -- a cell that is not clear of the side
-  not-clear : (t : Tree ℕ I) → clear A b t ≡ false → (begins t ≡ true) × (goesOn t ≡ true)
-  not-clear t e =
-      by-cases (begins t)
-      (λ p. by-cases (goesOn t) (λ o. (p, o)) (λ o. clash (clear-past A b t o) e))
-      (λ p. let t : clear A b t ≡ true = (rw p) in clash t e)
-
   -- where the box's side is not the wrong way round
   module _ (straight : Straight X b) where
     past-outside : (t : Tree ℕ I) → lasts t ≡ false → inside A b t ≡ false
@@ -230,7 +217,7 @@ module _ {I T : Type 0} (K : Kind T) (X : Axis Mark Box) (b : Box) (f : ℕ → 
 
     -- beneath a node whose cell is neither inside the side nor clear of it, once it is visited
     open-adds : (n base : ℕ) (t : Tree ℕ I) → depth t ≤ n → depth t ≤ 40 → Laid base t → Ordered t → inside A b t ≡ false → begins t ≡ true → goesOn t ≡ true
-        → (tally : T) → openFrom K S xs n base (number t) (K .visit tally) ≡ add (found t) tally
+        → (tally : T) → openFrom K S C xs n base (number t) (K .visit tally) ≡ add (found t) tally
     unfolding openRecord
     open-adds n base (leaf m) d g h s i p o tally = let no : clear {I = I} A b (leaf m) ≡ false = rw (p, o) in clash (leaf-clear m i) no
     open-adds zero base (node i l r) d g h s o p q tally = absurd (omega arith)
@@ -254,27 +241,30 @@ module _ {I T : Type 0} (K : Kind T) (X : Axis Mark Box) (b : Box) (f : ℕ → 
         rw (
           br,
           ll,
-          open-adds n (K .deeper base) l (omega arith) (omega arith) (h .2) sl (past-outside l ll) (past-begins l ll) q (K .visit here),
+          open-adds n (K .deeper base) l (omega arith) (omega arith) (h .2) sl (past-outside l ll) (past-begins l ll) q (K .past here),
           ar .passes gr here,
         ) (add-swap (found l) (found r) here)))
         (λ br.
         let bl = by-cases (begins l) (λ t. clash (begins-begun l r s t) br) (λ t. t) in
         rw (
           br,
-          al .skips (rw bl) here,
+          al .skips bl here,
           open-adds n (K .deeper base) r (omega arith) (omega arith) (h .3) sr (rw br) p (straight (A .at (least r)) br) (add (found l) here),
         ))
         ∙ sym (opened-adds i l r o (rw (p, q)) tally)
 
-    pub count-adds : (base : ℕ) (t : Tree ℕ I) → depth t ≤ 40 → Laid base t → Ordered t → (tally : T) → countTree K S xs base (armOf X f t) tally ≡ add (found t) tally
+    pub count-adds : (base : ℕ) (t : Tree ℕ I) → depth t ≤ 40 → Laid base t → Ordered t → (tally : T)
+        → countTree K S C xs base (armOf X f t) tally ≡ add (found t) tally
     unfolding countTree
     count-adds base t d h s tally =
         let a = laid-arrives base t h in
         by-cases (inside A b t)
         (λ i. rw i (a .takes i tally))
-        (λ i. by-cases (clear A b t)
-        (λ c. rw (i, c) (a .skips c tally))
-        (λ c. let met = not-clear t c in rw (i, c) (open-adds 40 base t d d h s i (met .0) (met .1) tally)))
+        (λ i. by-cases (begins t)
+        (λ p. by-cases (goesOn t)
+        (λ o. rw (i, p, o) (open-adds 40 base t d d h s i p o tally))
+        (λ o. rw (i, p, o) (a .passes o tally)))
+        (λ p. rw (i, p) (a .skips p tally)))
 
 -- the tally in one number: sums go round at 2^64, so no bound is asked for
 pub added-both : (g h : Found) (tally : ℕ) → added (together g h) tally ≡ added h (added g tally)

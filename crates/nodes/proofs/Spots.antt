@@ -6,7 +6,6 @@ use mathlib.Core.Logic.{_⊎_, inl, inr}
 use native.Mathlib.Omega.{arith}
 use lib.ListN.{length, getD}
 use lib.Seq.{sets, length-sets}
-use borrow.Author.Tests.{le-leb}
 use Rattle.model.specs.Axis.{Axis}
 use Rattle.model.specs.Sheet.{Mark, Box}
 use Rattle.model.specs.Tree.{Tree, node, least}
@@ -15,34 +14,13 @@ use Rattle.table.specs.Marks.{slotMark}
 use Rattle.nodes.specs.Arms.{Arm, arms, armAt, putArm, recordAt}
 use Rattle.nodes.specs.Holds.{armOf, times, Held}
 use Rattle.nodes.proofs.Unchanged.{Apart, apart-sym, unchanged-trans, unchanged-arm, unchanged-record, unchanged-mark, putArm-unchanged}
-use Rattle.nodes.proofs.Frames.{sets-at, Region, Frame, FrameAt, frame-weaken, frameAt-of, frameAt-record, putArm-frame}
+use Rattle.nodes.proofs.Frames.{putArm-same, Region, Frame, FrameAt, frame-weaken, frameAt-of, frameAt-record, putArm-frame}
 use Rattle.nodes.proofs.Held.{times-least, held-least, held-same, held-frame, held-over, Names, names-left, names-right, names-own, Leaves}
 
 -- a record is two arms
-pub record-arms : (xs : List ℕ) (p : ℕ) → p + 8 ≤ length xs → recordAt xs p ≡ arms (armAt xs p) (armAt xs (p + 4))
-unfolding recordAt armAt
-record-arms xs p h =
-    let e5 : p + 4 + 1 ≡ p + 5 = omega arith in
-    let e6 : p + 4 + 2 ≡ p + 6 = omega arith in
-    let e7 : p + 4 + 3 ≡ p + 7 = omega arith in
-    rw (le-leb (p + 8) (length xs) h, le-leb (p + 4) (length xs) (omega arith), le-leb (p + 4 + 4) (length xs) (omega arith), e5, e6, e7)
-
--- an arm written and read again
-pub putArm-same : (xs : List ℕ) (at : ℕ) (a : Arm) → at + 4 ≤ length xs → armAt (putArm xs at a) at ≡ a
-unfolding armAt putArm
-putArm-same xs at a room =
-    let vs : List ℕ = a .node ∷ a .weight ∷ a .least ∷ a .greatest ∷ [] in
-    let e : at + 0 ≡ at = omega arith in
-    let w0 : getD (sets xs at vs) at 0 ≡ a .node = ap (λ i. getD (sets xs at vs) i 0) (sym e) ∙ sets-at vs xs at 0 (omega arith) room in
-    rw (
-      le-leb (at + 4) (length xs) room,
-      length-sets xs at vs,
-      le-leb (at + 4) (length xs) room,
-      w0,
-      sets-at vs xs at 1 (omega arith) room,
-      sets-at vs xs at 2 (omega arith) room,
-      sets-at vs xs at 3 (omega arith) room,
-    )
+pub record-arms : (xs : List ℕ) (p : ℕ) → recordAt xs p ≡ arms (armAt xs p) (armAt xs (p + 4))
+unfolding recordAt
+record-arms xs p = refl
 
 -- The four words at `at` are a place for the arm of a tree whose update touches the records of P, in a table of capacity C and n words: after the
 -- capacity's word, and apart from run A, from the marks and from those records.
@@ -147,7 +125,7 @@ module _ {I : Type 0} (A : Axis Mark Box) (f : ℕ → Mark) {place : ℕ → �
         frame-weaken (λ s p. tells s p) (frameAt-record name low high b) in
         record {
           is = spot-kept (spot-weaken w spot) b (spot-apart spot name other own low high) ∙ is;
-          held = held-over i l r (record-arms zs (place name) room ∙ ap₂ arms el er) hl hr d;
+          held = held-over i l r (record-arms zs (place name) ∙ ap₂ arms el er) hl hr d;
           frame = unchanged-trans before (frameAt-of c);
         }
       where

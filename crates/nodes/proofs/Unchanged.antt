@@ -4,14 +4,14 @@ use Prim.Native.Nat.{ℕ, suc, _+_, _≤_, _<_}
 use mathlib.Core.Path.{_≡_, refl, _∙_}
 use mathlib.Core.List.{List, [], _∷_}
 use native.Mathlib.Omega.{arith}
-use lib.Dec.{leb, ltb}
+use lib.Dec.{ltb}
 use lib.ListN.{length, getD, set, length-set}
 use lib.Seq.{sets, length-sets, getD-set-other}
 use borrow.Author.Tests.{ltb-true, ltb-false}
 use Rattle.model.proofs.Logic.{by-cases}
-use Rattle.table.specs.Layout.{slotPlace}
+use Rattle.table.specs.Layout.{armWidth, recordWidth, slotPlace}
 use Rattle.table.specs.Marks.{markAt, slotMark}
-use Rattle.nodes.specs.Arms.{Arm, armAt, putArm, recordAt, putRecord}
+use Rattle.nodes.specs.Arms.{Arm, armWords, armAt, putArm, recordAt, putRecord}
 
 -- WORDS
 
@@ -62,20 +62,15 @@ sets-unchanged vs xs i = record { long = length-sets xs i vs; same = other vs xs
     other (v ∷ vs) xs i j h =
         other vs (set xs i v) (suc i) j (λ l. omega (arith, h (omega arith))) ∙ set-unchanged xs i v .same j (λ e. omega (arith, h (omega arith)))
 
-pub putArm-unchanged : (xs : List ℕ) (at : ℕ) (a : Arm) → Unchanged (Off at (at + 4)) xs (putArm xs at a)
+pub putArm-unchanged : (xs : List ℕ) (at : ℕ) (a : Arm) → Unchanged (Off at (at + armWidth)) xs (putArm xs at a)
 unfolding putArm
-putArm-unchanged xs at a =
-    by-cases (leb (at + 4) (length xs))
-    (λ t. rw t (sets-unchanged (a .node ∷ a .weight ∷ a .least ∷ a .greatest ∷ []) xs at))
-    (λ f. rw f (unchanged-refl xs))
+putArm-unchanged xs at a = sets-unchanged (armWords a) xs at
 
-pub putRecord-unchanged : (xs : List ℕ) (at : ℕ) (l r : Arm) → Unchanged (Off at (at + 8)) xs (putRecord xs at l r)
+pub putRecord-unchanged : (xs : List ℕ) (at : ℕ) (l r : Arm) → Unchanged (Off at (at + recordWidth)) xs (putRecord xs at l r)
 unfolding putRecord
 putRecord-unchanged xs at l r =
-    by-cases (leb (at + 8) (length xs))
-    (λ t. rw t (sets-unchanged
-    (l .node ∷ l .weight ∷ l .least ∷ l .greatest ∷ r .node ∷ r .weight ∷ r .least ∷ r .greatest ∷ []) xs at))
-    (λ f. rw f (unchanged-refl xs))
+    unchanged-trans (unchanged-weaken (λ i o k. omega (arith, o k)) (putArm-unchanged xs at l))
+    (unchanged-weaken (λ i o k. omega (arith, o (omega arith))) (putArm-unchanged (putArm xs at l) (at + armWidth) r))
 
 -- WHAT READS THE SAME: an arm, a record and a mark whose words are kept
 
@@ -83,27 +78,18 @@ module _ {kept : ℕ → Type 0} {xs ys : List ℕ} (a : Unchanged kept xs ys) w
   words : (at n : ℕ) → Keeps kept at (at + n) → (j : ℕ) → j < n → getD ys (at + j) 0 ≡ getD xs (at + j) 0
   words at n k j h = a .same (at + j) (k (at + j) (omega arith) (omega arith))
 
-  pub unchanged-arm : (at : ℕ) → Keeps kept at (at + 4) → armAt ys at ≡ armAt xs at
+  pub unchanged-arm : (at : ℕ) → Keeps kept at (at + armWidth) → armAt ys at ≡ armAt xs at
   unfolding armAt
   unchanged-arm at k =
-      let w = words at 4 k in
-      rw (a .long, a .same at (k at (omega arith) (omega arith)), w 1 (omega arith), w 2 (omega arith), w 3 (omega arith))
+      let w = words at armWidth k in
+      rw (a .same at (k at (omega arith) (omega arith)), w 1 (omega arith), w 2 (omega arith), w 3 (omega arith))
 
-  pub unchanged-record : (at : ℕ) → Keeps kept at (at + 8) → recordAt ys at ≡ recordAt xs at
+  pub unchanged-record : (at : ℕ) → Keeps kept at (at + recordWidth) → recordAt ys at ≡ recordAt xs at
   unfolding recordAt
-  unchanged-record at k =
-      let w = words at 8 k in
-      rw (
-        a .long,
-        a .same at (k at (omega arith) (omega arith)),
-        w 1 (omega arith),
-        w 2 (omega arith),
-        w 3 (omega arith),
-        w 4 (omega arith),
-        w 5 (omega arith),
-        w 6 (omega arith),
-        w 7 (omega arith),
-      )
+  unchanged-record at k = rw (
+    unchanged-arm at (λ i l u. k i l (omega arith)),
+    unchanged-arm (at + armWidth) (λ i l u. k i (omega arith) (omega arith)),
+  )
 
   pub unchanged-mark : (s : ℕ) → Keeps kept (slotPlace s) (slotPlace s + 3) → slotMark ys s ≡ slotMark xs s
   unfolding slotMark markAt

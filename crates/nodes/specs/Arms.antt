@@ -2,11 +2,11 @@
 use Prim.Native.Nat.{ℕ, _+_, _*_, _%_}
 use mathlib.Core.Bool.{Bool}
 use mathlib.Core.List.{List, [], _∷_}
-use lib.Dec.{leb, ltb, eqb}
-use lib.ListN.{length, getD}
+use lib.Dec.{eqb}
+use lib.ListN.{getD}
 use lib.Seq.{sets}
 use Rattle.model.specs.Lists.{if_then_else_}
-use Rattle.table.specs.Layout.{armWidth, recordWidth}
+use Rattle.table.specs.Layout.{armWidth}
 use Rattle.nodes.specs.Weights.{sum}
 use Rattle.table.specs.Runs.{asSlot}
 use Rattle.table.specs.Words.{lesser, greater}
@@ -50,28 +50,22 @@ pub record Record : Type 0 where
 abbrev pub arms : Arm → Arm → Record
 arms l r = record { left = l; right = r }
 
--- where the words are not all there, an arm or a record reads as no trees, and nothing is written
+-- an arm in words: its root's number, its weight, its cell
+abbrev pub armWords : Arm → List ℕ
+armWords a = a .node ∷ a .weight ∷ a .least ∷ a .greatest ∷ []
+
 unfoldable pub armAt : List ℕ → ℕ → Arm
-armAt xs at = if leb (at + 4) (length xs) then arm (getD xs at 0) (getD xs (at + 1) 0) (getD xs (at + 2) 0) (getD xs (at + 3) 0) else noArm
+armAt xs at = arm (getD xs at 0) (getD xs (at + 1) 0) (getD xs (at + 2) 0) (getD xs (at + 3) 0)
 
 unfoldable pub putArm : List ℕ → ℕ → Arm → List ℕ
-putArm xs at a = if leb (at + 4) (length xs) then sets xs at (a .node ∷ a .weight ∷ a .least ∷ a .greatest ∷ []) else xs
+putArm xs at a = sets xs at (armWords a)
 
-unfoldable pub recordMissing : List ℕ → ℕ → Bool
-recordMissing xs at = ltb (length xs) (at + 8)
-
+-- a record in words: the left arm, and the right one behind it
 unfoldable pub recordAt : List ℕ → ℕ → Record
-recordAt xs at =
-    if leb (at + 8) (length xs)
-    then arms (arm (getD xs at 0) (getD xs (at + 1) 0) (getD xs (at + 2) 0) (getD xs (at + 3) 0))
-    (arm (getD xs (at + 4) 0) (getD xs (at + 5) 0) (getD xs (at + 6) 0) (getD xs (at + 7) 0))
-    else arms noArm noArm
+recordAt xs at = arms (armAt xs at) (armAt xs (at + armWidth))
 
 unfoldable pub putRecord : List ℕ → ℕ → Arm → Arm → List ℕ
-putRecord xs at l r =
-    if leb (at + 8) (length xs)
-    then sets xs at (l .node ∷ l .weight ∷ l .least ∷ l .greatest ∷ r .node ∷ r .weight ∷ r .least ∷ r .greatest ∷ [])
-    else xs
+putRecord xs at l r = putArm (putArm xs at l) (at + armWidth) r
 
 -- where the left, or the right, arm of the record at a word stands
 unfoldable pub childAt : ℕ → Bool → ℕ

@@ -2,23 +2,26 @@
 -- down to the node where the ends of the side part, and from there beneath each child with one end to look for. Assumes nothing.
 use Prim.Native.Nat.{ℕ, zero, suc, _+_, _*_, _-_, _/_, _%_, _^_}
 use mathlib.Core.Path.{_≡_, refl}
-use mathlib.Core.Bool.{Bool, not, _&&_, _||_}
+use mathlib.Core.Bool.{Bool, not, _&&_}
 use mathlib.Core.List.{List}
 use native.Mathlib.Omega.{arith}
+use lib.Dec.{leb}
 use Rattle.model.specs.Lists.{if_then_else_}
 use Rattle.model.specs.Axis.{Axis}
 use Rattle.model.specs.Register.{Found}
 use Rattle.model.specs.Sheet.{Mark, Box}
 use Rattle.table.specs.Limits.{deepest}
-use Rattle.nodes.specs.Arms.{Arm, Record, recordMissing, recordAt}
+use Rattle.nodes.specs.Arms.{Arm, Record, recordAt}
 
--- a kind of tree: where the record of a name stands in the level that begins at a word, where the next level begins, and what an arrival makes of a tally: at a
--- tree of a level, inside the side; at a tree clear of it; at any other, and at one that is known to lie past the side. And the tally of a search that met damage.
+-- a kind of tree: where the record of a name stands in the level that begins at a word, where the next level begins, and what an arrival makes of a tally:
+-- at a tree of a level, inside the side; at one that ends before it; at one that begins past it; at one that is opened. And the tally of a search that met
+-- damage.
 pub record Kind (T : Type 0) : Type 0 where
   pub place : ℕ → ℕ → ℕ
   pub deeper : ℕ → ℕ
   pub take : ℕ → Arm → T → T
-  pub skip : Arm → T → T
+  pub before : Arm → T → T
+  pub past : T → T
   pub visit : T → T
   pub lost : T
 
@@ -50,21 +53,23 @@ module _ {T : Type 0} (K : Kind T) (S : Side) where
   unfoldable pub lowRecord : Beneath → ℕ → Record → T → T
   lowRecord rec base p tally =
       if before (p .left .greatest)
-      then (if before (p .right .least) then rec (K .deeper base) (p .right .node) (K .visit (K .skip (p .left) tally))
-      else K .take (K .deeper base) (p .right) (K .skip (p .left) tally))
+      then (if before (p .right .least) then rec (K .deeper base) (p .right .node) (K .visit (K .before (p .left) tally))
+      else K .take (K .deeper base) (p .right) (K .before (p .left) tally))
       else rec (K .deeper base) (p .left .node) (K .visit (K .take (K .deeper base) (p .right) tally))
 
   -- beneath one that begins on the side, and in which it ends
   unfoldable pub highRecord : Beneath → ℕ → Record → T → T
   highRecord rec base p tally =
       if past (p .right .least)
-      then (if past (p .left .greatest) then rec (K .deeper base) (p .left .node) (K .visit (K .visit tally)) else K .take (K .deeper base) (p .left) (K .visit tally))
+      then (if past (p .left .greatest) then rec (K .deeper base) (p .left .node) (K .visit (K .past tally))
+      else K .take (K .deeper base) (p .left) (K .past tally))
       else rec (K .deeper base) (p .right .node) (K .visit (K .take (K .deeper base) (p .left) tally))
 
-  module _ (xs : List ℕ) where
+  -- a node that is of no slot of the table is damage
+  module _ (capacity : ℕ) (xs : List ℕ) where
     unfoldable pub lowNode : Beneath → Beneath
     lowNode rec base n tally =
-        if recordMissing xs (K .place base (n / 2)) then K .lost else lowRecord rec base (recordAt xs (K .place base (n / 2))) tally
+        if leb capacity (n / 2) then K .lost else lowRecord rec base (recordAt xs (K .place base (n / 2))) tally
 
     unfoldable pub lowFrom : ℕ → Beneath
     lowFrom zero base n tally = K .lost
@@ -72,7 +77,7 @@ module _ {T : Type 0} (K : Kind T) (S : Side) where
 
     unfoldable pub highNode : Beneath → Beneath
     highNode rec base n tally =
-        if recordMissing xs (K .place base (n / 2)) then K .lost else highRecord rec base (recordAt xs (K .place base (n / 2))) tally
+        if leb capacity (n / 2) then K .lost else highRecord rec base (recordAt xs (K .place base (n / 2))) tally
 
     unfoldable pub highFrom : ℕ → Beneath
     highFrom zero base n tally = K .lost
@@ -81,24 +86,24 @@ module _ {T : Type 0} (K : Kind T) (S : Side) where
     -- the arrival at a tree that ends no later than the side, and at one that begins no earlier
     unfoldable pub lowEnd : ℕ → Arm → T → T
     lowEnd base a tally =
-        if before (a .greatest) then K .skip a tally
+        if before (a .greatest) then K .before a tally
         else (if before (a .least) then lowFrom deepest base (a .node) (K .visit tally) else K .take base a tally)
 
     unfoldable pub highEnd : ℕ → Arm → T → T
     highEnd base a tally =
-        if past (a .least) then K .visit tally
+        if past (a .least) then K .past tally
         else (if past (a .greatest) then highFrom deepest base (a .node) (K .visit tally) else K .take base a tally)
 
     -- beneath a node whose cell is neither inside the side nor clear of it: the right child alone meets the side, or the left one alone, or its ends part here
     unfoldable pub openRecord : Beneath → ℕ → Record → T → T
     openRecord rec base p tally =
-        if before (p .right .least) then rec (K .deeper base) (p .right .node) (K .visit (K .skip (p .left) tally))
-        else (if past (p .left .greatest) then rec (K .deeper base) (p .left .node) (K .visit (K .visit tally))
+        if before (p .right .least) then rec (K .deeper base) (p .right .node) (K .visit (K .before (p .left) tally))
+        else (if past (p .left .greatest) then rec (K .deeper base) (p .left .node) (K .visit (K .past tally))
         else highEnd (K .deeper base) (p .right) (lowEnd (K .deeper base) (p .left) tally))
 
     unfoldable pub openNode : Beneath → Beneath
     openNode rec base n tally =
-        if recordMissing xs (K .place base (n / 2)) then K .lost else openRecord rec base (recordAt xs (K .place base (n / 2))) tally
+        if leb capacity (n / 2) then K .lost else openRecord rec base (recordAt xs (K .place base (n / 2))) tally
 
     unfoldable pub openFrom : ℕ → Beneath
     openFrom zero base n tally = K .lost
@@ -108,7 +113,8 @@ module _ {T : Type 0} (K : Kind T) (S : Side) where
     unfoldable pub countTree : ℕ → Arm → T → T
     countTree base a tally =
         if S .fromLow (a .least) && S .toHigh (a .greatest) then K .take base a tally
-        else (if before (a .greatest) || past (a .least) then K .skip a tally else openFrom deepest base (a .node) (K .visit tally))
+        else (if before (a .greatest) then K .before a tally
+        else (if past (a .least) then K .past tally else openFrom deepest base (a .node) (K .visit tally)))
 
     pub lowFrom-zero : (f : ℕ) → f ≡ 0 → (base n : ℕ) (tally : T) → lowFrom f base n tally ≡ K .lost
     unfolding lowFrom

@@ -7,7 +7,7 @@ ghost use lib.Dec.{eqb};
 ghost use lib.ListN.{length};
 ghost use Rattle.table.specs.After.{after};
 ghost use Rattle.table.specs.Layout.{armWidth, recordWidth, mainPlace, auxiliaryPlace, runsEnd};
-ghost use Rattle.nodes.specs.Arms.{leafNumber, innerNumber, noArm, leafArm, overArm, grownArm, armAt, putArm, recordMissing, recordAt, putRecord, childAt};
+ghost use Rattle.nodes.specs.Arms.{leafNumber, innerNumber, noArm, leafArm, overArm, grownArm, armAt, putArm, recordAt, putRecord, childAt};
 ghost use Rattle.nodes.specs.Collect.{gather♯};
 ghost use Rattle.nodes.specs.Values.{armValue, primaryArm, primaryRecord, secondaryArm};
 use crate::arm;
@@ -146,40 +146,9 @@ impl PrimaryArm {
     {
         Arm::store(t, at, a.bare());
     }
-
-    // The same where the words may not be there: no tree is read then, and nothing is written.
-    pub fn at(t: &[u32], at: usize) -> PrimaryArm
-        requires { ⌜ at < 2 ^ 60 ⌝ }
-        ensures { λ r. ⌜ primaryArm r ≡ armAt (now (t .entry)) at ⌝ }
-    {
-        if at + layout::ARM <= t.len() {
-            return PrimaryArm::load(t, at);
-        }
-        PrimaryArm::none()
-    }
-
-    pub fn put(t: &mut [u32], at: usize, a: PrimaryArm)
-        requires { ⌜ at < 2 ^ 60 ⌝ }
-        ensures { λ _. ⌜ now (t .exit) ≡ putArm (now (t .entry)) at (primaryArm a) ⌝ }
-    {
-        if at + layout::ARM <= t.len() {
-            PrimaryArm::store(t, at, a);
-        }
-    }
 }
 
 impl PrimaryRecord {
-    // Whether the words lack the record of that name. (What the name is compared with stays the same on a walk, which then has it ready.)
-    pub fn is_missing(t: &[u32], name: u32) -> bool
-        ensures { λ r. ⌜ r ≡ recordMissing (now (t .entry)) (mainPlace name) ⌝ }
-    {
-        if t.len() < layout::HEADER + layout::MARK + layout::RECORD {
-            return true;
-        }
-        (t.len() - (layout::HEADER + layout::MARK + layout::RECORD)) / layout::SLOT
-            < (name as usize)
-    }
-
     // The record of the inner node of that name, which is there.
     pub fn load(t: &[u32], name: u32) -> PrimaryRecord
         requires { ⌜ mainPlace name + recordWidth ≤ length (now t) ⌝ }
@@ -217,30 +186,6 @@ impl PrimaryRecord {
         )
     }
 
-    // The same where the words may not be there: no trees are read then, and nothing is written.
-    pub fn at(t: &[u32], name: u32) -> PrimaryRecord
-        ensures { λ r. ⌜ primaryRecord r ≡ recordAt (now (t .entry)) (mainPlace name) ⌝ }
-    {
-        if layout::HEADER + layout::MARK + layout::SLOT * (name as usize) + layout::RECORD
-            <= t.len()
-        {
-            return PrimaryRecord::load(t, name);
-        }
-        let left = PrimaryArm::none();
-        let right = PrimaryArm::none();
-        PrimaryRecord { left, right }
-    }
-
-    pub fn put(t: &mut [u32], name: u32, l: PrimaryArm, r: PrimaryArm)
-        ensures { λ _. ⌜ now (t .exit) ≡ putRecord (now (t .entry)) (mainPlace name) (primaryArm l) (primaryArm r) ⌝ }
-    {
-        if layout::HEADER + layout::MARK + layout::SLOT * (name as usize) + layout::RECORD
-            <= t.len()
-        {
-            PrimaryRecord::store(t, name, l, r);
-        }
-    }
-
     // Where the arm of the auxiliary tree of that node stands.
     pub fn auxiliary_place(name: u32) -> usize
         ensures is { λ r. ⌜ r ≡ auxiliaryPlace name ⌝ }
@@ -265,26 +210,6 @@ impl PrimaryRecord {
         ensures { λ _. ⌜ now (t .exit) ≡ putArm (now (t .entry)) (auxiliaryPlace name) (secondaryArm a) ⌝ }
     {
         SecondaryArm::store(
-            t,
-            layout::HEADER + layout::MARK + layout::RECORD + layout::SLOT * (name as usize),
-            a,
-        );
-    }
-
-    // The same where the words may not be there.
-    pub fn auxiliary(t: &[u32], name: u32) -> SecondaryArm
-        ensures { λ r. ⌜ secondaryArm r ≡ armAt (now (t .entry)) (auxiliaryPlace name) ⌝ }
-    {
-        SecondaryArm::at(
-            t,
-            layout::HEADER + layout::MARK + layout::RECORD + layout::SLOT * (name as usize),
-        )
-    }
-
-    pub fn put_auxiliary(t: &mut [u32], name: u32, a: SecondaryArm)
-        ensures { λ _. ⌜ now (t .exit) ≡ putArm (now (t .entry)) (auxiliaryPlace name) (secondaryArm a) ⌝ }
-    {
-        SecondaryArm::put(
             t,
             layout::HEADER + layout::MARK + layout::RECORD + layout::SLOT * (name as usize),
             a,

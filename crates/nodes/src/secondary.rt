@@ -7,7 +7,7 @@ ghost use lib.Dec.{eqb};
 ghost use lib.ListN.{length};
 ghost use Rattle.table.specs.After.{after};
 ghost use Rattle.table.specs.Layout.{armWidth, recordWidth, recordPlace, runsEnd, levelEnd};
-ghost use Rattle.nodes.specs.Arms.{leafNumber, innerNumber, noArm, leafArm, overArm, grownArm, armAt, putArm, recordMissing, recordAt, putRecord, childAt};
+ghost use Rattle.nodes.specs.Arms.{leafNumber, innerNumber, noArm, leafArm, overArm, grownArm, armAt, putArm, recordAt, putRecord, childAt};
 ghost use Rattle.nodes.specs.Collect.{gather♯};
 ghost use Rattle.nodes.specs.Values.{armValue, secondaryArm, secondaryRecord};
 use crate::arm;
@@ -153,40 +153,9 @@ impl SecondaryArm {
     {
         Arm::store(t, at, a.bare());
     }
-
-    // The same where the words may not be there: no tree is read then, and nothing is written.
-    pub fn at(t: &[u32], at: usize) -> SecondaryArm
-        requires { ⌜ at < 2 ^ 60 ⌝ }
-        ensures { λ r. ⌜ secondaryArm r ≡ armAt (now (t .entry)) at ⌝ }
-    {
-        if at + layout::ARM <= t.len() {
-            return SecondaryArm::load(t, at);
-        }
-        SecondaryArm::none()
-    }
-
-    pub fn put(t: &mut [u32], at: usize, a: SecondaryArm)
-        requires { ⌜ at < 2 ^ 60 ⌝ }
-        ensures { λ _. ⌜ now (t .exit) ≡ putArm (now (t .entry)) at (secondaryArm a) ⌝ }
-    {
-        if at + layout::ARM <= t.len() {
-            SecondaryArm::store(t, at, a);
-        }
-    }
 }
 
 impl SecondaryRecord {
-    // Whether the words lack the record of that name. (What the name is compared with stays the same on a walk, which then has it ready.)
-    pub fn is_missing(t: &[u32], base: u32, name: u32) -> bool
-        ensures { λ r. ⌜ r ≡ recordMissing (now (t .entry)) (recordPlace base name) ⌝ }
-    {
-        let first = (base as usize) + layout::RECORD;
-        if t.len() < first {
-            return true;
-        }
-        (t.len() - first) / layout::RECORD < (name as usize)
-    }
-
     // The record of the inner node of that name, in the level whose records begin at base, which is there.
     pub fn load(t: &[u32], base: u32, name: u32) -> SecondaryRecord
         requires { ⌜ recordPlace base name + recordWidth ≤ length (now t) ⌝ }
@@ -216,25 +185,5 @@ impl SecondaryRecord {
         ensures small { λ r. ⌜ r < 2 ^ 40 ⌝ }
     {
         Record::child((base as usize) + layout::RECORD * (name as usize), left)
-    }
-
-    // The same where the words may not be there: no trees are read then, and nothing is written.
-    pub fn at(t: &[u32], base: u32, name: u32) -> SecondaryRecord
-        ensures { λ r. ⌜ secondaryRecord r ≡ recordAt (now (t .entry)) (recordPlace base name) ⌝ }
-    {
-        if (base as usize) + layout::RECORD * (name as usize) + layout::RECORD <= t.len() {
-            return SecondaryRecord::load(t, base, name);
-        }
-        let left = SecondaryArm::none();
-        let right = SecondaryArm::none();
-        SecondaryRecord { left, right }
-    }
-
-    pub fn put(t: &mut [u32], base: u32, name: u32, l: SecondaryArm, r: SecondaryArm)
-        ensures { λ _. ⌜ now (t .exit) ≡ putRecord (now (t .entry)) (recordPlace base name) (secondaryArm l) (secondaryArm r) ⌝ }
-    {
-        if (base as usize) + layout::RECORD * (name as usize) + layout::RECORD <= t.len() {
-            SecondaryRecord::store(t, base, name, l, r);
-        }
     }
 }

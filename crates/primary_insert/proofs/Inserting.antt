@@ -26,9 +26,10 @@ use Rattle.nodes.specs.Arms.{Arm, arms, grownArm, armAt, putArm, childAt}
 use Rattle.nodes.specs.Weights.{sum, unbalances}
 use Rattle.nodes.specs.Holds.{armOf, timesIn, times}
 use Rattle.table.specs.After.{After}
+use Rattle.nodes.proofs.Frames.{putArm-same}
 use Rattle.nodes.proofs.Held.{times-node, times-least, held-weight, held-least, leafArm-of, Names, least-marks, greatest-marks, names-marks, names-own}
 use Rattle.nodes.proofs.Unchanged.{unchanged-trans}
-use Rattle.nodes.proofs.Spots.{record-arms, putArm-same}
+use Rattle.nodes.proofs.Spots.{record-arms}
 use Rattle.nodes.proofs.Levels.{most-levels, held-shallow}
 use Rattle.twofold_layout.specs.Rules.{SlotAuxiliary, SlotMain, slotAuxiliary, ByRules}
 use Rattle.twofold_layout.specs.TwoFold.{HoldsAuxiliary, TwoFold}
@@ -121,7 +122,7 @@ module _ (f : ℕ → Mark) (C s : ℕ) (small : C ≤ 65536) (inC : s < C) wher
     handed-arms : arms (armAt (handed .words) (mainPlace (least r))) (armAt (handed .words) (mainPlace (least r) + 4))
         ≡ arms (armOf alongX f l) (armOf alongX f r)
     handed-arms =
-        sym (record-arms (handed .words) (mainPlace (least r)) handed-room)
+        sym (record-arms (handed .words) (mainPlace (least r)))
         ∙ beneath-record C d (least r) node-named handed-within (handed-grown .frame) (least r) node-named ∙ widened-held .main .records .0
 
     left-ready : TwoReady f C s (suc d) (mainPlace (least r)) (handed .words) l

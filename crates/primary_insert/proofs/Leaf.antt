@@ -18,9 +18,9 @@ use Rattle.nodes.specs.Arms.{Arm, putArm}
 use Rattle.nodes.specs.Holds.{armOf, timesIn, times}
 use Rattle.table.specs.After.{After}
 use Rattle.nodes.proofs.Unchanged.{unchanged-trans}
-use Rattle.nodes.proofs.Frames.{FrameAt, putArm-frame}
+use Rattle.nodes.proofs.Frames.{putArm-same, FrameAt, putArm-frame}
 use Rattle.nodes.proofs.Held.{times-least, held-least, leafArm-of, Names, names-own, held-same}
-use Rattle.nodes.proofs.Spots.{putArm-same, LeavesAt}
+use Rattle.nodes.proofs.Spots.{LeavesAt}
 use Rattle.twofold_layout.specs.Rules.{SlotAuxiliary, SlotMain, AuxiliaryOf}
 use Rattle.twofold_layout.specs.TwoFold.{HoldsAuxiliary}
 use Rattle.twofold_layout.proofs.Frames.{TwoFrame, TwoSpot, twoFrame-at, main-frameAt, level-frameAt}

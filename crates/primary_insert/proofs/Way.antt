@@ -21,9 +21,9 @@ use Rattle.nodes.specs.Arms.{Arm, arms, armAt, putArm}
 use Rattle.nodes.specs.Holds.{armOf, timesIn, times, Held}
 use Rattle.table.specs.After.{After}
 use Rattle.nodes.proofs.Unchanged.{apart-sym, unchanged-trans}
-use Rattle.nodes.proofs.Frames.{FrameAt, frameAt-weaken}
+use Rattle.nodes.proofs.Frames.{putArm-same, FrameAt, frameAt-weaken}
 use Rattle.nodes.proofs.Held.{times-node, times-least, held-least, Names, names-left, names-right, names-own}
-use Rattle.nodes.proofs.Spots.{record-arms, putArm-same}
+use Rattle.nodes.proofs.Spots.{record-arms}
 use Rattle.twofold_layout.specs.Rules.{SlotAuxiliary, SlotMain, slotAuxiliary, AuxiliaryOf, AuxiliariesOf}
 use Rattle.twofold_layout.specs.TwoFold.{HoldsAuxiliary, TwoFold}
 use Rattle.twofold_layout.proofs.Frames.{TwoFrame, TwoSpot, twoFrame-weaken, twoFrame-at, twoFrame-inner, arm-twoFrame, twoSpot-weaken, child-spot}
@@ -102,7 +102,7 @@ module _ {f : ℕ → Mark} {C d at : ℕ} (i : SlotAuxiliary) (l r : SlotMain) 
       let fits : mainPlace name + 8 ≤ length ws = omega (arith, a .long) in
       record {
         is = kept-arm inP clear a at (twoSpot-weaken w spot) (λ k. omega (arith, spot .offNodes name (names-own i l r apart name refl) (omega arith))) ∙ is;
-        held = two-over i l r (record-arms ws (mainPlace name) fits ∙ ap₂ arms el er)
+        held = two-over i l r (record-arms ws (mainPlace name) ∙ ap₂ arms el er)
             (kept-own inP clear a d name i (omega arith) within inC out (omega arith) aux) hl hr apart;
         frame = unchanged-trans before (twoFrame-at (twoFrame-weaken (omega arith) (λ s k. tells s k) v (twoFrame-inner name low (omega arith) a)));
       }

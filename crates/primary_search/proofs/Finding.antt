@@ -1,13 +1,13 @@
 -- On words that hold a main tree, the mirror of the finding gives the slot of a mark that stands there, and `absent` for one that does not. Assumes
 -- nothing.
-use Prim.Native.Nat.{ℕ, zero, suc, _+_, _*_, _/_, _%_, _≤_, _<_}
+use Prim.Native.Nat.{ℕ, zero, suc, _+_, _*_, _/_, _%_, _<_}
 use mathlib.Core.Path.{_≡_, _∙_}
 use mathlib.Core.Bool.{true, false}
 use mathlib.Core.List.{List, _++_}
 use native.Mathlib.Omega.{arith}
 use lib.Dec.{eqb}
-use lib.ListN.{length, getD}
-use borrow.Author.Tests.{eq-eqb, ne-eqb, eqb-true, le-leb, lt-leb}
+use lib.ListN.{getD}
+use borrow.Author.Tests.{eq-eqb, ne-eqb, eqb-true, lt-leb}
 use Rattle.model.specs.Lists.{if_then_else_, countIf}
 use Rattle.model.specs.Tree.{leaf, node, weight, depth, marks, least}
 use Rattle.model.specs.Sheet.{Mark, sheet, same, belowX, alongX}
@@ -104,10 +104,10 @@ module _ (f : ℕ → Mark) (C : ℕ) (xs : List ℕ) where
       rw (find-inner n (least r) m (armOf alongX f l) (armOf alongX f r) (held-least (held-right h)) (h .records .0) (named i l r h), left, right)
       (by-cases (belowX m (f (least r))) (λ t. rw t) (λ t. rw t))
 
-  module _ (t : SlotMain) (root : armAt xs rootPlace ≡ armOf alongX f t) (capacity : getD xs capacityPlace 0 ≡ C) (room : 64 + 16 * C ≤ length xs) where
+  module _ (t : SlotMain) (root : armAt xs rootPlace ≡ armOf alongX f t) (capacity : getD xs capacityPlace 0 ≡ C) where
     find-root : (m : Mark) → find♯ xs m ≡ findBeneath♯ 40 xs C m (number t)
     unfolding find♯ findRoot
-    find-root m = rw (root, ne-eqb (weight t) 0 (omega (arith, weight-pos t)), capacity, le-leb (64 + 16 * C) (length xs) room)
+    find-root m = rw (root, ne-eqb (weight t) 0 (omega (arith, weight-pos t)), capacity)
 
     pub find-holds : Held alongX f mainPlace C xs t → Sorted (slotAxis f alongX) (marks t) → depth t < 40 → (s : ℕ) → 0 < times s t → find♯ xs (f s) ≡ s
     find-holds h o d s k = find-root (f s) ∙ found-beneath s 40 t d h o k

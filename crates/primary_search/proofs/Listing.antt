@@ -7,31 +7,32 @@ use mathlib.Core.List.{List, [], _∷_, _++_, map}
 use mathlib.Core.Option.{none, some}
 use native.Mathlib.Omega.{arith}
 use native.Mathlib.Nat.{zero-add}
-use borrow.Author.Tests.{lt-leb, le-leb, eq-eqb, ne-eqb}
+use borrow.Author.Tests.{lt-leb, le-leb, le-ltb, eq-eqb, ne-eqb}
 use lib.ListN.{length, getD, length-append}
 use lib.Seq.{sets, length-sets}
 use Rattle.model.specs.Lists.{if_then_else_, filterBy}
 use Rattle.model.specs.Register.{Listed}
 use Rattle.model.specs.Tree.{leaf, node, weight, depth, marks, least}
 use Rattle.model.specs.Search.{inside, clear, searchList}
+use Rattle.model.specs.Sizes.{D, W}
 use Rattle.model.specs.Sheet.{Mark, Box, sheet, holds, alongX}
 use Rattle.model.specs.Slots.{slotSpace, slotAxis}
 use Rattle.model.specs.Laws.{SameBag}
 use Rattle.model.proofs.Logic.{by-cases}
 use Rattle.model.proofs.Lists.{countIf-append}
 use Rattle.model.proofs.Tree.{weight-pos}
-use Rattle.table.specs.Layout.{capacityPlace, rootPlace, levelPlace, listPlace}
+use Rattle.table.specs.Layout.{capacityPlace, rootPlace, levelPlace, listPlace, levelEnd}
 use Rattle.table.specs.Marks.{slotMark, putMark, markWords}
 use Rattle.nodes.specs.Arms.{armAt}
 use Rattle.nodes.specs.Holds.{armOf}
 use Rattle.table.specs.Tally.{pack}
 use Rattle.table.specs.After.{After, after}
-use Rattle.nodes.proofs.Levels.{held-shallow}
+use Rattle.nodes.proofs.Levels.{W-words, most-levels, held-depth}
 use Rattle.table.proofs.Tallies.{visited-pack, pack-visits, pack-found}
 use Rattle.twofold_layout.specs.Rules.{SlotAuxiliary, SlotMain, slotAuxiliary, slotMain, AuxiliaryOf, AuxiliariesOf, ByRules}
 use Rattle.twofold_layout.specs.TwoFold.{TwoFold}
 use Rattle.secondary_search.proofs.Listing.{written, written-append, met, met-listed, carriesBag-carries, list-holds}
-use Rattle.primary_search.specs.List.{listMark, listLeaf♯, listChildren, listInner, listArm, listBeneath♯, listRoot, mainList♯}
+use Rattle.primary_search.specs.List.{listMark, listLeaf♯, listOver♯, listChildren, listInner, listArm, listBeneath♯, listRoot, mainList♯}
 use Rattle.twofold_layout.proofs.Over.{deeper-level, top-level}
 use Rattle.primary_search.proofs.Ready.{ReadyNode, Ready, inside-settled, ready}
 
@@ -95,13 +96,14 @@ module _ (f : ℕ → Mark) (b : Box) where
         rw (e, t, visited-pack k v 1 (omega arith) (omega arith), pack-found k v (omega arith), le-leb (listPlace k + 3) (length ys) (omega arith)))
         (λ t. rw (e, t, visited-pack k v 0 (omega arith) (omega arith)))
 
-    list-leaf : (n base s : ℕ) → slotMark xs s ≡ f s
+    list-leaf : (n base s : ℕ) → s < C → slotMark xs s ≡ f s
         → Writes (listBeneath♯ (suc n) xs C b most base (armOf {I = SlotAuxiliary} alongX f (leaf s))) (mainMet (leaf s)) 1
     unfolding listBeneath♯ listArm
-    list-leaf n base s e k v ys hv hk hy =
+    list-leaf n base s below e k v ys hv hk hy =
         let even : (2 * s) % 2 ≡ 0 = omega arith in
         let half : (2 * s) / 2 ≡ s = omega arith in
-        rw (pack-visits k v (omega arith), lt-leb most v (omega arith), eq-eqb ((2 * s) % 2) 0 even, half) (leaf-writes s e k v ys hv hk hy)
+        rw (pack-visits k v (omega arith), lt-leb most v (omega arith), half, lt-leb C s below, eq-eqb ((2 * s) % 2) 0 even)
+        (leaf-writes s e k v ys hv hk hy)
 
     -- and at a node, by the three ways on
     module _ (n d : ℕ) (i : SlotAuxiliary) (l r : SlotMain) (h : ReadyNode f C xs d i l r) where
@@ -118,15 +120,16 @@ module _ (f : ℕ → Mark) (b : Box) where
           rw (
             pack-visits k v (omega arith),
             lt-leb most v (omega arith),
-            ne-eqb ((2 * least r + 1) % 2) 0 odd,
             half,
+            lt-leb C (least r) (h .within),
+            ne-eqb ((2 * least r + 1) % 2) 0 odd,
             visited-pack k v 0 (omega arith) (omega arith),
             z,
           ) (inner k v ys hv hk hy)
 
       list-inside : inside (slotAxis f alongX) b (node i l r) ≡ true
           → Writes (listBeneath♯ (suc n) xs C b most (levelPlace C d) (armOf alongX f (node i l r))) (metCarried i) (slotAuxiliary f .list b i .visits + 1)
-      unfolding listInner
+      unfolding listInner listOver♯
       list-inside t =
           let a = h .auxiliary in
           let u = a .tree in
@@ -136,9 +139,10 @@ module _ (f : ℕ → Mark) (b : Box) where
           let q : v + 1 + slotAuxiliary f .list b (some u) .visits ≡ v + (slotAuxiliary f .list b (some u) .visits + 1) = omega arith in
           rw (
             t,
+            le-ltb (length xs) (levelEnd (levelPlace C d) C) (h .room),
             a .arm,
-            list-holds f most few (levelPlace C d) xs b 40 u (a .records) (carriesBag-carries u (a .carries)) (inside-settled f C xs b d i l r h t)
-                (a .marked) (omega (arith, a .shallow)) k (v + 1) ys (omega arith) hk hy,
+            list-holds f most few (levelPlace C d) C xs b 40 u (a .held) (carriesBag-carries u (a .carries)) (inside-settled f C xs b d i l r h t)
+                (omega (arith, a .shallow)) k (v + 1) ys (omega arith) hk hy,
             q,
           )))
 
@@ -174,7 +178,7 @@ module _ (f : ℕ → Mark) (b : Box) where
     list-beneath : C ≤ 65536 → (n d : ℕ) (t : SlotMain) → depth t < n → d + depth t ≤ 38 → Ready f C xs d t
         → Writes (listBeneath♯ n xs C b most (levelPlace C d) (armOf alongX f t)) (mainMet t) (listedMain t .visits)
     list-beneath small zero d t g e h = absurd (omega arith)
-    list-beneath small (suc n) d (leaf s) g e h = list-leaf n (levelPlace C d) s h
+    list-beneath small (suc n) d (leaf s) g e h = list-leaf n (levelPlace C d) s (h .0) (h .1)
     list-beneath small (suc n) d (node i l r) g e h =
         by-cases (inside (slotAxis f alongX) b (node i l r))
         (λ t. rw t (list-inside n d i l r (h .0) t))
@@ -186,15 +190,16 @@ module _ (f : ℕ → Mark) (b : Box) where
         (list-beneath small n (suc d) l (omega arith) (omega arith) (h .1)) (list-beneath small n (suc d) r (omega arith) (omega arith) (h .2)))))
 
 module _ (f : ℕ → Mark) (C : ℕ) (xs : List ℕ) where
-  pub list-main-holds : (t : SlotMain) → armAt xs rootPlace ≡ armOf alongX f t → TwoFold f C 0 xs t → ByRules f t → C ≤ 65536
+  pub list-main-holds : (t : SlotMain) → armAt xs rootPlace ≡ armOf alongX f t → TwoFold f C 0 xs t → ByRules f t → C ≤ 65536 → W C ≤ length xs
       → getD xs capacityPlace 0 ≡ C → (b : Box) (most : ℕ) → most < 2147483648 → slotMain f .list b (some t) .visits ≤ most
       → (ys : List ℕ) → listPlace (length (mainMet f b t)) ≤ length ys → length (mainMet f b t) ≤ 65536
       → mainList♯ xs b most ys
       ≡ after (pack (length (mainMet f b t)) (slotMain f .list b (some t) .visits)) (sets ys 0 (markWords (map f (mainMet f b t))))
   unfolding mainList♯ listRoot
-  list-main-holds t root h k small c b most few hv ys hy hk =
+  list-main-holds t root h k small long c b most few hv ys hy hk =
       let m = length (mainMet f b t) in
       let w = slotMain f .list b (some t) .visits in
-      let g = list-beneath f b most (omega arith) C xs small 40 0 t (omega (arith, held-shallow (h .main) (k .balanced) small))
-      (omega (arith, held-shallow (h .main) (k .balanced) small)) (ready f C xs small 0 t h k) 0 0 ys (omega arith) (omega arith) (omega arith) in
+      let low : 0 + depth t ≤ D C = omega (arith, held-depth (h .main) (k .balanced)) in
+      let g = list-beneath f b most (omega arith) C xs small 40 0 t (omega (arith, most-levels C small)) (omega (arith, most-levels C small))
+      (ready f C xs small (D C) (omega (arith, W-words C)) 0 t low h k) 0 0 ys (omega arith) (omega arith) (omega arith) in
       rw (c, root, ne-eqb (weight t) 0 (omega (arith, weight-pos t)), top-level C small) (rw (zero-add m, zero-add w) at g)

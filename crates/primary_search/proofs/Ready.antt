@@ -1,11 +1,12 @@
--- What the searches ask of the words of a two-fold tree, node by node: the words hold it and it is by the rules. Assumes nothing.
-use Prim.Native.Nat.{ℕ, suc, _≤_}
-use mathlib.Core.Path.{_≡_, refl, sym, subst, _∙_}
+-- What the searches ask of the words of a two-fold tree, node by node: the words hold it, have room for its levels, and it is by the rules. Assumes nothing.
+use Prim.Native.Nat.{ℕ, suc, _+_, _≤_, _<_}
+use mathlib.Core.Path.{_≡_, sym, subst, _∙_}
 use mathlib.Core.Bool.{true}
 use mathlib.Core.List.{List, _++_}
 use mathlib.Core.Option.{some, Option·some-injective}
 use native.Mathlib.Omega.{arith}
-use borrow.Author.Tests.{eq-eqb}
+use native.Mathlib.Nat.{suc-mul, mul-le-mul-right}
+use lib.ListN.{length}
 use Rattle.model.specs.Axis.{onSide}
 use Rattle.model.specs.Tree.{Tree, leaf, node, depth, marks, least, Balanced}
 use Rattle.model.specs.Search.{inside}
@@ -17,16 +18,15 @@ use Rattle.model.proofs.Sorted.{sorted-left, sorted-right}
 use Rattle.model.proofs.Search.{inside-onSide}
 use Rattle.model.proofs.Orders.{alongX-laws}
 use Rattle.model.proofs.Slots.{slotAxis-laws}
-use Rattle.table.specs.Layout.{mainPlace, auxiliaryPlace, levelPlace, recordPlace}
+use Rattle.table.specs.Layout.{mainPlace, auxiliaryPlace, levelPlace, recordPlace, levelEnd}
 use Rattle.table.specs.Marks.{slotMark}
 use Rattle.nodes.specs.Arms.{arms, armAt, recordAt}
-use Rattle.nodes.specs.Holds.{armOf, Holds, CarriesBag}
-use Rattle.nodes.proofs.Held.{held-left, held-right, all-times}
+use Rattle.nodes.specs.Holds.{armOf, Held, CarriesBag}
+use Rattle.nodes.proofs.Held.{times-least, held-least, held-left, held-right}
 use Rattle.nodes.proofs.Levels.{held-shallow}
 use Rattle.twofold_layout.specs.Rules.{SlotAuxiliary, SlotMain, AuxiliaryOf, ByRules}
 use Rattle.twofold_layout.specs.TwoFold.{HoldsAuxiliary, TwoFold}
 use Rattle.secondary_search.proofs.Counting.{Settled}
-use Rattle.secondary_search.proofs.Listing.{Marked}
 
 module _ (f : ℕ → Mark) (C : ℕ) (xs : List ℕ) where
   -- the auxiliary tree of the main node of that name at depth d, over the slots of l
@@ -34,20 +34,21 @@ module _ (f : ℕ → Mark) (C : ℕ) (xs : List ℕ) where
     pub tree : Tree ℕ (List ℕ)
     pub is : o ≡ some tree
     pub arm : armAt xs (auxiliaryPlace name) ≡ armOf alongY f tree
-    pub records : Holds alongY f (recordPlace (levelPlace C d)) xs tree
-    pub marked : Marked f xs tree
+    pub held : Held alongY f (recordPlace (levelPlace C d)) C xs tree
     pub bag : SameBag (marks tree) l
     pub sorted : Sorted (slotAxis f alongY) (marks tree)
     pub carries : CarriesBag tree
     pub shallow : depth tree ≤ 38
 
   pub record ReadyNode (d : ℕ) (i : SlotAuxiliary) (l r : SlotMain) : Type 0 where
+    pub within : least r < C
+    pub room : levelEnd (levelPlace C d) C ≤ length xs
     pub children : recordAt xs (mainPlace (least r)) ≡ arms (armOf alongX f l) (armOf alongX f r)
     pub auxiliary : ReadyAuxiliary d (least r) (marks l ++ marks r) i
     pub sorted : Sorted (slotAxis f alongX) (marks l ++ marks r)
 
   abbrev pub Ready : ℕ → SlotMain → Type 0
-  Ready d (leaf s) = slotMark xs s ≡ f s
+  Ready d (leaf s) = (s < C) × (slotMark xs s ≡ f s)
   Ready d (node i l r) = ReadyNode d i l r × Ready (suc d) l × Ready (suc d) r
 
   -- all beneath a node whose cell is inside the box's side are settled, and so is its auxiliary tree
@@ -65,24 +66,30 @@ module _ (f : ℕ → Mark) (C : ℕ) (xs : List ℕ) where
           tree = h .tree;
           is = h .is;
           arm = h .arm;
-          records = h .held .records;
-          marked = all-times (marks (h .tree)) (h .held .marked);
+          held = h .held;
           bag = subst (λ t. SameBag (marks t) l) e (k .bag);
           sorted = subst (λ t. Sorted (slotAxis f alongY) (marks t)) e (k .sorted);
           carries = subst CarriesBag e (k .carries);
           shallow = held-shallow (h .held) (subst Balanced e (k .balanced)) small;
         }
 
-    pub ready : (d : ℕ) (t : SlotMain) → TwoFold f C d xs t → ByRules f t → Ready d t
-    ready d (leaf s) h k = h .main .marked s (rw (eq-eqb s s refl) (omega arith))
-    ready d (node i l r) h k = (
-      record {
-        children = h .main .records .0;
-        auxiliary = ready-auxiliary d (least r) (marks l ++ marks r) i (h .auxiliaries .0) (k .auxiliaries .0);
-        sorted = k .sorted;
-      },
-      ready (suc d) l (record { main = held-left (h .main); auxiliaries = h .auxiliaries .1 })
-          (record { sorted = sorted-left (marks l) (marks r) (k .sorted); balanced = k .balanced .2; auxiliaries = k .auxiliaries .1 }),
-      ready (suc d) r (record { main = held-right (h .main); auxiliaries = h .auxiliaries .2 })
-          (record { sorted = sorted-right (marks l) (marks r) (k .sorted); balanced = k .balanced .3; auxiliaries = k .auxiliaries .2 }),
-    )
+    -- a level of the n that the words have room for is all there
+    module _ (n : ℕ) (room : levelPlace C n ≤ length xs) where
+      level-there : (d : ℕ) → d < n → levelEnd (levelPlace C d) C ≤ length xs
+      level-there d h = omega (arith, suc-mul d C, mul-le-mul-right {m = suc d} {n = n} C h)
+
+      pub ready : (d : ℕ) (t : SlotMain) → d + depth t ≤ n → TwoFold f C d xs t → ByRules f t → Ready d t
+      ready d (leaf s) e h k = (held-least (h .main), h .main .marked s (times-least {I = SlotAuxiliary} (leaf s)))
+      ready d (node i l r) e h k = (
+        record {
+          within = held-least (held-right (h .main));
+          room = level-there d (omega arith);
+          children = h .main .records .0;
+          auxiliary = ready-auxiliary d (least r) (marks l ++ marks r) i (h .auxiliaries .0) (k .auxiliaries .0);
+          sorted = k .sorted;
+        },
+        ready (suc d) l (omega arith) (record { main = held-left (h .main); auxiliaries = h .auxiliaries .1 })
+            (record { sorted = sorted-left (marks l) (marks r) (k .sorted); balanced = k .balanced .2; auxiliaries = k .auxiliaries .1 }),
+        ready (suc d) r (omega arith) (record { main = held-right (h .main); auxiliaries = h .auxiliaries .2 })
+            (record { sorted = sorted-right (marks l) (marks r) (k .sorted); balanced = k .balanced .3; auxiliaries = k .auxiliaries .2 }),
+      )

@@ -7,7 +7,6 @@ use mathlib.Core.Bool.{true, false}
 use mathlib.Core.List.{List}
 use native.Mathlib.Omega.{arith}
 use lib.Dec.{eqb, leb}
-use lib.ListN.{length}
 use borrow.Author.Tests.{eqb-true, eqb-false, leb-false}
 use Rattle.model.specs.Sheet.{Mark, same, belowX}
 use Rattle.model.proofs.Logic.{by-cases, clash}
@@ -102,15 +101,11 @@ module _ (xs : List ℕ) (m : Mark) where
     find-finds d a =
         by-cases (eqb (armAt xs rootPlace .weight) 0)
         (λ t. absurd (a (rw t)))
-        (λ f. by-cases (leb (64 + 16 * C) (length xs))
-        (λ t. rw (f, t) (came-found (eqb-false (armAt xs rootPlace .weight) 0 f) (came deepest (armAt xs rootPlace .node)) (rw (f, t) at d) (rw (f, t) at a)))
-        (λ u. absurd (d (rw (f, u)))))
+        (λ f. rw f (came-found (eqb-false (armAt xs rootPlace .weight) 0 f) (came deepest (armAt xs rootPlace .node)) (rw f at d) (rw f at a)))
 
     pub find-lacks : find♯ xs m ≡ absent → Lacks xs m
     unfolding find♯ findRoot
     find-lacks a =
         by-cases (eqb (armAt xs rootPlace .weight) 0)
         (λ t. none (eqb-true (armAt xs rootPlace .weight) 0 t))
-        (λ f. by-cases (leb (64 + 16 * C) (length xs))
-        (λ t. came-missed (eqb-false (armAt xs rootPlace .weight) 0 f) (came deepest (armAt xs rootPlace .node)) (rw (f, t) at a))
-        (λ u. absurd (let z = (rw (f, u) at a) in omega arith)))
+        (λ f. came-missed (eqb-false (armAt xs rootPlace .weight) 0 f) (came deepest (armAt xs rootPlace .node)) (rw f at a))

@@ -1,10 +1,10 @@
 -- The mirror of the finding. Assumes nothing.
-use Prim.Native.Nat.{ℕ, zero, suc, _+_, _*_, _-_, _/_, _%_}
+use Prim.Native.Nat.{ℕ, zero, suc, _-_, _/_, _%_}
 use mathlib.Core.Path.{_≡_, refl}
 use mathlib.Core.List.{List}
 use native.Mathlib.Omega.{arith}
 use lib.Dec.{leb, eqb}
-use lib.ListN.{length, getD}
+use lib.ListN.{getD}
 use Rattle.model.specs.Lists.{if_then_else_}
 use Rattle.model.specs.Sheet.{Mark, same, belowX}
 use Rattle.table.specs.Layout.{capacityPlace, mainPlace, rootPlace}
@@ -15,7 +15,7 @@ use Rattle.nodes.specs.Arms.{Arm, armAt, recordAt}
 unfoldable pub findLeaf : List ℕ → Mark → ℕ → ℕ
 findLeaf xs m s = if same m (slotMark xs s) then s else absent
 
--- from a node's number; one that is of no slot is damage
+-- from a node's number; one that is of no slot of the table is damage
 unfoldable pub findNode : (ℕ → ℕ) → List ℕ → ℕ → Mark → ℕ → ℕ
 findNode rec xs capacity m n =
     if leb capacity (n / 2) then damaged
@@ -37,9 +37,12 @@ findBeneath♯-suc zero h xs capacity m n = absurd (h refl)
 findBeneath♯-suc (suc f) h xs capacity m n = let e : suc f - 1 ≡ f = omega arith in rw e
 
 unfoldable pub findRoot : List ℕ → ℕ → Mark → Arm → ℕ
-findRoot xs capacity m a =
-    if eqb (a .weight) 0 then absent
-    else (if leb (64 + 16 * capacity) (length xs) then findBeneath♯ deepest xs capacity m (a .node) else damaged)
+findRoot xs capacity m a = if eqb (a .weight) 0 then absent else findBeneath♯ deepest xs capacity m (a .node)
 
+-- from the root of the table's tree
+abbrev pub findFrom♯ : List ℕ → ℕ → Mark → ℕ
+findFrom♯ xs capacity m = findRoot xs capacity m (armAt xs rootPlace)
+
+-- by the capacity that the words say
 unfoldable pub find♯ : List ℕ → Mark → ℕ
-find♯ xs m = findRoot xs (getD xs capacityPlace 0) m (armAt xs rootPlace)
+find♯ xs m = findFrom♯ xs (getD xs capacityPlace 0) m

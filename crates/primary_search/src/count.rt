@@ -1,60 +1,77 @@
 // Counting: the planner's inner loop. In an ordered tree the box's side begins in one child of a node and ends in one: the search goes down to the node
-// where the two ends part, and from there beneath each child with one end to look for.
+// where the two ends part, and from there beneath each child with one end to look for. A node that is of no slot of the table is damage.
 ghost use mathlib.Core.Path.{_≡_};
+ghost use Prim.Native.Nat.{_+_, _≤_};
+ghost use lib.ListN.{length};
 ghost use Rattle.model.specs.Sheet.{box};
 ghost use Rattle.geometry.specs.Values.{boxValue};
+ghost use Rattle.table.specs.Layout.{markWidth, armWidth, slotPlace, auxiliaryPlace, slotsEnd};
 ghost use Rattle.nodes.specs.Values.{primaryArm};
-ghost use Rattle.primary_search.specs.Count.{leaf♯, handOver♯, handed♯, mainLow♯, mainHigh♯, mainLowEnd♯, mainHighEnd♯, mainOpened♯, mainSearch♯, mainCount♯};
+ghost use Rattle.primary_search.specs.Count.{leaf♯, handOver♯, handed♯, mainLow♯, mainHigh♯, mainLowEnd♯, mainHighEnd♯, mainOpened♯};
+ghost use Rattle.primary_search.specs.Count.{mainSearch♯, countFrom♯};
 use geometry::Box;
 use nodes::primary::Primary;
 use nodes::primary::PrimaryArm;
 use nodes::primary::PrimaryRecord;
-use table::header;
 use table::layout;
 use table::limits;
 use table::slots;
-use table::tally;
+use table::tally::Tally;
 use twofold_layout::levels;
 
 // The arrival at the leaf of slot s.
-fn leaf(t: &[u32], b: Box, s: u32, tally: u64) -> u64
-    ensures { λ r. ⌜ r ≡ leaf♯ (now (t .entry)) (boxValue b) s tally ⌝ }
+fn leaf(t: &[u32], b: Box, s: u32, tally: Tally) -> Tally
+    requires { ⌜ slotPlace s + markWidth ≤ length (now t) ⌝ }
+    ensures { λ r. ⌜ r .0 ≡ leaf♯ (now (t .entry)) (boxValue b) s (tally .0) ⌝ }
 {
-    if b.holds(slots::mark_at(t, s)) {
-        return tally::visit(tally, 1);
+    if b.holds(slots::load(t, s)) {
+        return tally.take(1);
     }
-    tally::visit(tally, 0)
+    tally.visit()
 }
 
-// The arrival at the inner node named s, which hands over to its auxiliary tree. That is searched by y alone: the ends of the side are handed on as numbers, which
-// stay in registers, where a Box would be copied to memory for each walk.
-fn hand_over(t: &[u32], base: u32, y1: u32, y2: u32, s: u32, tally: u64) -> u64
-    ensures { λ r. ⌜ r ≡ handOver♯ (now (t .entry)) (box 0 0 y1 y2) base s tally ⌝ }
+// The arrival at the inner node named s, which hands over to its auxiliary tree: here it is told once that the words have the whole level. The tree is searched
+// by y alone: the ends of the side are handed on as numbers, which stay in registers, where a Box would be copied to memory for each walk.
+fn hand_over(t: &[u32], base: u32, capacity: u32, y1: u32, y2: u32, s: u32, tally: Tally) -> Tally
+    requires { ⌜ auxiliaryPlace s + armWidth ≤ length (now t) ⌝ }
+    ensures { λ r. ⌜ r .0 ≡ handOver♯ (now (t .entry)) capacity (box 0 0 y1 y2) base s (tally .0) ⌝ }
 {
-    let root = PrimaryRecord::auxiliary(t, s);
+    if t.len() < (base as usize) + layout::RECORD * (capacity as usize) {
+        return Tally::lost();
+    }
+    let root = PrimaryRecord::load_auxiliary(t, s);
     let side = Box {
         x1: 0,
         x2: 0,
         y1,
         y2,
     };
-    secondary_search::count::count(t, base, side, root, tally::visit(tally, 0))
+    secondary_search::count::count(t, base, capacity, side, root, tally.visit())
 }
 
-// The arrival at a node of that number whose cell is inside the box's side.
-fn handed(t: &[u32], base: u32, b: Box, node: Primary, tally: u64) -> u64
-    ensures { λ r. ⌜ r ≡ handed♯ (now (t .entry)) (boxValue b) base (node .0) tally ⌝ }
+// The arrival at a node of that number whose cell is inside the box's side. (A number for the tally, here and back: the loops call this one, where a Tally
+// would go through memory.)
+fn handed(t: &[u32], base: u32, capacity: u32, b: Box, node: Primary, tally: u64) -> u64
+    requires { ⌜ slotsEnd capacity ≤ length (now t) ⌝ }
+    ensures { λ r. ⌜ r ≡ handed♯ (now (t .entry)) capacity (boxValue b) base (node .0) tally ⌝ }
 {
     let s = node.slot();
-    if node.is_leaf() {
-        return leaf(t, b, s, tally);
+    if capacity <= s {
+        return limits::LOST;
     }
-    hand_over(t, base, b.y1, b.y2, s, tally)
+    let from = Tally(tally);
+    if node.is_leaf() {
+        let found = leaf(t, b, s, from);
+        return found.0;
+    }
+    let found = hand_over(t, base, capacity, b.y1, b.y2, s, from);
+    found.0
 }
 
 // Beneath a node in which the side begins, and which ends on it; its level begins at `level`.
-fn from_low(t: &[u32], level: u32, capacity: u32, b: Box, start: Primary, from: u64) -> u64
-    ensures { λ r. ⌜ r ≡ mainLow♯ (now (t .entry)) capacity (boxValue b) level (start .0) from ⌝ }
+fn from_low(t: &[u32], level: u32, capacity: u32, b: Box, start: Primary, from: Tally) -> Tally
+    requires { ⌜ slotsEnd capacity ≤ length (now t) ⌝ }
+    ensures { λ r. ⌜ r .0 ≡ mainLow♯ (now (t .entry)) capacity (boxValue b) level (start .0) (from .0) ⌝ }
 {
     let mut base = level;
     let mut node = start;
@@ -63,8 +80,8 @@ fn from_low(t: &[u32], level: u32, capacity: u32, b: Box, start: Primary, from: 
     while 0 < left {
         left -= 1;
         let s = node.slot();
-        if PrimaryRecord::is_missing(t, s) {
-            return limits::LOST;
+        if capacity <= s {
+            return Tally::lost();
         }
         let p = PrimaryRecord::load(t, s);
         let l = p.left;
@@ -73,24 +90,25 @@ fn from_low(t: &[u32], level: u32, capacity: u32, b: Box, start: Primary, from: 
         let right_node = r.node;
         base = levels::deeper(base, capacity);
         if b.before_x(l.greatest) {
-            tally = tally::visit(tally, 0);
+            tally = tally.before(l.weight);
             if b.before_x(r.least) {
-                tally = tally::visit(tally, 0);
+                tally = tally.visit();
                 node = right_node;
             } else {
-                return handed(t, base, b, right_node, tally);
+                return Tally(handed(t, base, capacity, b, right_node, tally.0));
             }
         } else {
-            tally = tally::visit(handed(t, base, b, right_node, tally), 0);
+            tally = Tally(handed(t, base, capacity, b, right_node, tally.0)).visit();
             node = left_node;
         }
     }
-    limits::LOST
+    Tally::lost()
 }
 
 // Beneath a node that begins on the side, and in which it ends.
-fn to_high(t: &[u32], level: u32, capacity: u32, b: Box, start: Primary, from: u64) -> u64
-    ensures { λ r. ⌜ r ≡ mainHigh♯ (now (t .entry)) capacity (boxValue b) level (start .0) from ⌝ }
+fn to_high(t: &[u32], level: u32, capacity: u32, b: Box, start: Primary, from: Tally) -> Tally
+    requires { ⌜ slotsEnd capacity ≤ length (now t) ⌝ }
+    ensures { λ r. ⌜ r .0 ≡ mainHigh♯ (now (t .entry)) capacity (boxValue b) level (start .0) (from .0) ⌝ }
 {
     let mut base = level;
     let mut node = start;
@@ -99,8 +117,8 @@ fn to_high(t: &[u32], level: u32, capacity: u32, b: Box, start: Primary, from: u
     while 0 < left {
         left -= 1;
         let s = node.slot();
-        if PrimaryRecord::is_missing(t, s) {
-            return limits::LOST;
+        if capacity <= s {
+            return Tally::lost();
         }
         let p = PrimaryRecord::load(t, s);
         let l = p.left;
@@ -109,52 +127,53 @@ fn to_high(t: &[u32], level: u32, capacity: u32, b: Box, start: Primary, from: u
         let right_node = r.node;
         base = levels::deeper(base, capacity);
         if b.past_x(r.least) {
-            tally = tally::visit(tally, 0);
+            tally = tally.past();
             if b.past_x(l.greatest) {
-                tally = tally::visit(tally, 0);
+                tally = tally.visit();
                 node = left_node;
             } else {
-                return handed(t, base, b, left_node, tally);
+                return Tally(handed(t, base, capacity, b, left_node, tally.0));
             }
         } else {
-            tally = tally::visit(handed(t, base, b, left_node, tally), 0);
+            tally = Tally(handed(t, base, capacity, b, left_node, tally.0)).visit();
             node = right_node;
         }
     }
-    limits::LOST
+    Tally::lost()
 }
 
 // The arrival at a tree that ends no later than the side, and at one that begins no earlier.
-fn low_end(t: &[u32], base: u32, capacity: u32, b: Box, a: PrimaryArm, tally: u64) -> u64
-    ensures { λ r. ⌜ r ≡ mainLowEnd♯ (now (t .entry)) capacity (boxValue b) base (primaryArm a) tally ⌝ }
+fn low_end(t: &[u32], base: u32, capacity: u32, b: Box, a: PrimaryArm, tally: Tally) -> Tally
+    requires { ⌜ slotsEnd capacity ≤ length (now t) ⌝ }
+    ensures { λ r. ⌜ r .0 ≡ mainLowEnd♯ (now (t .entry)) capacity (boxValue b) base (primaryArm a) (tally .0) ⌝ }
 {
-    let n = a.node;
     if b.before_x(a.greatest) {
-        return tally::visit(tally, 0);
+        return tally.before(a.weight);
     }
     if b.before_x(a.least) {
-        return from_low(t, base, capacity, b, n, tally::visit(tally, 0));
+        return from_low(t, base, capacity, b, a.node, tally.visit());
     }
-    handed(t, base, b, n, tally)
+    Tally(handed(t, base, capacity, b, a.node, tally.0))
 }
 
-fn high_end(t: &[u32], base: u32, capacity: u32, b: Box, a: PrimaryArm, tally: u64) -> u64
-    ensures { λ r. ⌜ r ≡ mainHighEnd♯ (now (t .entry)) capacity (boxValue b) base (primaryArm a) tally ⌝ }
+fn high_end(t: &[u32], base: u32, capacity: u32, b: Box, a: PrimaryArm, tally: Tally) -> Tally
+    requires { ⌜ slotsEnd capacity ≤ length (now t) ⌝ }
+    ensures { λ r. ⌜ r .0 ≡ mainHighEnd♯ (now (t .entry)) capacity (boxValue b) base (primaryArm a) (tally .0) ⌝ }
 {
-    let n = a.node;
     if b.past_x(a.least) {
-        return tally::visit(tally, 0);
+        return tally.past();
     }
     if b.past_x(a.greatest) {
-        return to_high(t, base, capacity, b, n, tally::visit(tally, 0));
+        return to_high(t, base, capacity, b, a.node, tally.visit());
     }
-    handed(t, base, b, n, tally)
+    Tally(handed(t, base, capacity, b, a.node, tally.0))
 }
 
 // Beneath a node whose cell is neither inside the side nor clear of it; its level begins at `level`. Where the right child begins before the side, the left one
-// is clear of it; where the left child ends past the side, the right one is.
-fn opened(t: &[u32], level: u32, capacity: u32, b: Box, start: Primary, from: u64) -> u64
-    ensures { λ r. ⌜ r ≡ mainOpened♯ (now (t .entry)) capacity (boxValue b) level (start .0) from ⌝ }
+// ends before it; where the left child ends past the side, the right one begins past it.
+fn opened(t: &[u32], level: u32, capacity: u32, b: Box, start: Primary, from: Tally) -> Tally
+    requires { ⌜ slotsEnd capacity ≤ length (now t) ⌝ }
+    ensures { λ r. ⌜ r .0 ≡ mainOpened♯ (now (t .entry)) capacity (boxValue b) level (start .0) (from .0) ⌝ }
 {
     let mut base = level;
     let mut node = start;
@@ -163,8 +182,8 @@ fn opened(t: &[u32], level: u32, capacity: u32, b: Box, start: Primary, from: u6
     while 0 < left {
         left -= 1;
         let s = node.slot();
-        if PrimaryRecord::is_missing(t, s) {
-            return limits::LOST;
+        if capacity <= s {
+            return Tally::lost();
         }
         let p = PrimaryRecord::load(t, s);
         let l = p.left;
@@ -173,11 +192,11 @@ fn opened(t: &[u32], level: u32, capacity: u32, b: Box, start: Primary, from: u6
         let right_node = r.node;
         base = levels::deeper(base, capacity);
         if b.before_x(r.least) {
-            tally = tally::visit(tally::visit(tally, 0), 0);
+            tally = tally.before(l.weight).visit();
             node = right_node;
         } else {
             if b.past_x(l.greatest) {
-                tally = tally::visit(tally::visit(tally, 0), 0);
+                tally = tally.past().visit();
                 node = left_node;
             } else {
                 let low = low_end(t, base, capacity, b, l, tally);
@@ -185,37 +204,37 @@ fn opened(t: &[u32], level: u32, capacity: u32, b: Box, start: Primary, from: u6
             }
         }
     }
-    limits::LOST
+    Tally::lost()
 }
 
-// The arrival at the root, whose level begins at `level`.
-fn search(t: &[u32], level: u32, capacity: u32, b: Box, root: PrimaryArm) -> u64
-    ensures { λ r. ⌜ r ≡ mainSearch♯ (now (t .entry)) capacity (boxValue b) level (primaryArm root) ⌝ }
+// The marks that the box holds of a tree whose level begins at `level`, with the visits, from its root's arm: of the table's tree, or of any that stands in its
+// words.
+pub fn search(t: &[u32], level: u32, capacity: u32, b: Box, root: PrimaryArm) -> Tally
+    requires { ⌜ slotsEnd capacity ≤ length (now t) ⌝ }
+    ensures { λ r. ⌜ r .0 ≡ mainSearch♯ (now (t .entry)) capacity (boxValue b) level (primaryArm root) ⌝ }
 {
-    let n = root.node;
-    let s = n.slot();
-    if n.is_leaf() {
-        return leaf(t, b, s, 0);
-    }
     if b.inside_x(root.least, root.greatest) {
-        return hand_over(t, level, b.y1, b.y2, s, 0);
+        return Tally(handed(t, level, capacity, b, root.node, 0));
     }
-    if b.clear_x(root.least, root.greatest) {
-        return tally::visit(0, 0);
+    if b.before_x(root.greatest) {
+        return Tally::none().before(root.weight);
     }
-    opened(t, level, capacity, b, n, tally::visit(0, 0))
+    if b.past_x(root.least) {
+        return Tally::none().past();
+    }
+    opened(t, level, capacity, b, root.node, Tally::none().visit())
 }
 
 // The marks of the table that the box of these sides holds, with the visits. Where they are more than a sound table's can be (sizes::Size), the words hold
 // no tree. (Numbers in place of a Box, and the words lent on: both reach the loop in registers.)
-pub fn count(t: &[u32], x1: u32, x2: u32, y1: u32, y2: u32) -> u64
-    ensures { λ r. ⌜ r ≡ mainCount♯ (now (t .entry)) (box x1 x2 y1 y2) ⌝ }
+pub fn count(t: &[u32], capacity: u32, x1: u32, x2: u32, y1: u32, y2: u32) -> Tally
+    requires { ⌜ slotsEnd capacity ≤ length (now t) ⌝ }
+    ensures { λ r. ⌜ r .0 ≡ countFrom♯ (now (t .entry)) capacity (box x1 x2 y1 y2) ⌝ }
 {
-    let root = PrimaryArm::at(t, layout::ROOT);
+    let root = PrimaryArm::load(t, layout::ROOT);
     if root.weight == 0 {
-        return 0;
+        return Tally::none();
     }
-    let capacity = header::capacity(t);
     let b = Box { x1, x2, y1, y2 };
     search(&t[0..t.len()], levels::top(capacity), capacity, b, root)
 }

@@ -25,8 +25,8 @@ use Rattle.table.specs.Limits.{deepest, damaged}
 use Rattle.nodes.specs.Arms.{noArm, arms, armAt, renamed}
 use Rattle.nodes.specs.Holds.{number, armOf, times}
 use Rattle.table.specs.After.{After}
+use Rattle.nodes.proofs.Frames.{putArm-same}
 use Rattle.nodes.proofs.Held.{times-node, times-least, held-right, held-least, held-weight, least-marks}
-use Rattle.nodes.proofs.Spots.{putArm-same}
 use Rattle.nodes.proofs.Levels.{most-levels, held-depth, held-shallow}
 use Rattle.twofold_layout.specs.Rules.{SlotAuxiliary, SlotMain, slotAuxiliary, ByRules}
 use Rattle.twofold_layout.specs.TwoFold.{TwoFold}

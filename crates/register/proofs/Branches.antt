@@ -11,11 +11,12 @@ use Rattle.model.specs.Refusals.{Outcome, accepted, refused, openTable, enterMa
 use Rattle.model.specs.History.{Answer, refusal, updated, whichList}
 use Rattle.table.specs.After.{After, after}
 use Rattle.table.specs.Layout.{livePlace}
-use Rattle.primary_search.specs.Count.{mainCount♯}
-use Rattle.primary_search.specs.List.{mainList♯}
+use Rattle.primary_search.specs.Find.{findFrom♯, find♯}
+use Rattle.primary_search.specs.Count.{countFrom♯, mainCount♯}
+use Rattle.primary_search.specs.List.{listFrom♯, mainList♯}
 use Rattle.sorting.specs.Sorted.{SortedIn}
 use Rattle.whole_table.specs.Empty.{empty♯}
-use Rattle.table.specs.Header.{ownWords, ownVisits}
+use Rattle.table.specs.Header.{capacityOf, ownWords, ownVisits}
 use Rattle.register.specs.Mirrors.{within, onAccepted, open♯, onTable, updateOwn, orNumber, countOwn♯, count♯}
 use Rattle.register.specs.Mirrors.{ListedOwn, ListsOwn, lost, short, lists, Lists, notTable, crossed, onOwn}
 use Rattle.register.specs.Answers.{ListFigures, listRefused}
@@ -59,6 +60,20 @@ module _ (xs : List ℕ) (c : ℕ) where
       → after (updated 0 0) (x ++ drop (n - 0) xs) ≡ open♯ c xs
   unfolding open♯ onAccepted within
   open-own n e x h = let k = (rw (sub-zero n) at h) in rw (e, sub-zero n, ← k)
+
+-- what a search gives for the capacity that the words say
+module _ (xs : List ℕ) (capacity : ℕ) (is : capacity ≡ capacityOf xs) where
+  pub find-read : (m : Mark) (s : ℕ) → s ≡ findFrom♯ xs capacity m → s ≡ find♯ xs m
+  unfolding find♯
+  find-read m s h = h ∙ ap (λ c. findFrom♯ xs c m) is
+
+  pub count-read : (b : Box) (t : ℕ) → t ≡ countFrom♯ xs capacity b → t ≡ mainCount♯ xs b
+  unfolding mainCount♯
+  count-read b t h = h ∙ ap (λ c. countFrom♯ xs c b) is
+
+  pub list-read : (b : Box) (most : ℕ) (ys : List ℕ) (p : After ℕ) → p ≡ listFrom♯ xs capacity b most ys → p ≡ mainList♯ xs b most ys
+  unfolding mainList♯
+  list-read b most ys p h = h ∙ ap (λ c. listFrom♯ xs c b most ys) is
 
 -- the k marks that a count has found are listed into the leading part x of the first list, and sorted
 pub list-marks : (b : Box) (most k : ℕ) (xs first second first′ second′ x : List ℕ) (tally visits which : ℕ)

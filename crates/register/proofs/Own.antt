@@ -44,6 +44,11 @@ open-needs c lent n e =
 pub open-fits : (c lent n : ℕ) → openTable c lent ≡ accepted n → n ≤ lent
 open-fits c lent n e = omega (arith, open-needs c lent n e .1, open-needs c lent n e .2)
 
+pub open-room : (c n : ℕ) (xs : List ℕ) → openTable c (length xs) ≡ accepted n → runsEnd c ≤ length (take (n - 0) xs)
+open-room c n xs e =
+    let k = open-needs c (length xs) n e in
+    rw (sub-zero n) (omega (arith, length-take-le n xs (omega (arith, k .1, k .2)), k .1, W-words c))
+
 -- where 3 does not apply
 
 pub W-header : (c : ℕ) → 64 ≤ W c

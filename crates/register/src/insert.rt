@@ -24,13 +24,13 @@ fn insert_own(t: &mut [u32], m: Mark) -> Update
     requires { ⌜ runsEnd (capacityOf (now t)) ≤ length (now t) ⌝ }
     ensures { λ r. ⌜ after (updateAnswer r) (now (t .exit)) ≡ insertOwn♯ (markValue m) (now (t .entry)) ⌝ }
 {
-    let s = find::find(t, m);
+    let capacity = header::capacity(t);
+    let s = find::find(t, capacity, m);
     if s == limits::DAMAGED {
         return update::close(t);
     }
     if s == limits::ABSENT {
         let live = header::live(t);
-        let capacity = header::capacity(t);
         if live == capacity {
             return Update::Full;
         }

@@ -5,7 +5,8 @@ ghost use lib.ListN.{length, getD};
 ghost use Rattle.model.specs.Sheet.{box};
 ghost use Rattle.model.specs.History as history;
 ghost use Rattle.geometry.specs.Values.{boxValue};
-ghost use Rattle.table.specs.Layout.{livePlace};
+ghost use Rattle.table.specs.Header.{capacityOf, OfCapacity};
+ghost use Rattle.table.specs.Layout.{livePlace, runsEnd};
 ghost use Rattle.table.specs.Limits.{mostVisits};
 ghost use Rattle.register.specs.Answers.{listAnswer, listFigures};
 ghost use Rattle.register.specs.Mirrors.{ListedOwn, ListsOwn, Lists};
@@ -16,40 +17,41 @@ use geometry::NewBox;
 use sorting::order::Order;
 use sorting::sort;
 use table::header;
-use table::tally;
 
 // Lists the k marks that a count has found. Nothing is refused from here on: a refusal changes no lent word.
 fn list_marks(
     t: &[u32],
+    capacity: u32,
     most: u32,
     b: Box,
     first: &mut [u32],
     second: &mut [u32],
     k: u32,
 ) -> Listing
-    requires { ⌜ (most ≤ mostVisits) × (k ≤ 65536) × (3 * k ≤ length (now first)) × (3 * k ≤ length (now second)) ⌝ }
+    requires { ⌜ OfCapacity capacity (now t) × (most ≤ mostVisits) × (k ≤ 65536) × (3 * k ≤ length (now first)) × (3 * k ≤ length (now second)) ⌝ }
     ensures { λ r. ⌜ ListedOwn (boxValue b) most k (now (t .entry)) (now (first .entry)) (now (second .entry))
         (now (first .exit)) (now (second .exit)) (listFigures r) ⌝ }
 {
     let words = 3 * (k as usize);
-    let tally = primary_search::list::list(t, b, &mut first[0..words], most + 2 * k);
+    let tally = primary_search::list::list(t, capacity, b, &mut first[0..words], most + 2 * k);
     let which = sort::sort_lists(Order::AlongX, first, second, k);
-    Listing::Listed(k, tally::visits(tally), which)
+    Listing::Listed(k, tally.visits(), which)
 }
 
 // Lists from the table's own words, in which no sound tree takes more visits than `most`. The count comes first: it tells what the lists must hold, and
 // finds most damage before anything is written.
 fn list_own(t: &[u32], most: u32, b: Box, first: &mut [u32], second: &mut [u32]) -> Listing
-    requires { ⌜ (most ≤ mostVisits) × (getD (now t) livePlace 0 ≤ 65536) ⌝ }
+    requires { ⌜ (most ≤ mostVisits) × (getD (now t) livePlace 0 ≤ 65536) × (runsEnd (capacityOf (now t)) ≤ length (now t)) ⌝ }
     ensures { λ r. ⌜ ListsOwn (boxValue b) most (now (t .entry)) (now (first .entry)) (now (second .entry))
         (now (first .exit)) (now (second .exit)) (listFigures r) ⌝ }
 {
-    let tally = primary_search::count::count(t, b.x1, b.x2, b.y1, b.y2);
-    if most < tally::visits(tally) {
+    let capacity = header::capacity(t);
+    let tally = primary_search::count::count(t, capacity, b.x1, b.x2, b.y1, b.y2);
+    if most < tally.visits() {
         return Listing::Unsound;
     }
-    let k = tally::found(tally);
-    if table::header::live(t) < k {
+    let k = tally.found();
+    if header::live(t) < k {
         return Listing::Unsound;
     }
     let words = 3 * (k as usize);
@@ -59,7 +61,7 @@ fn list_own(t: &[u32], most: u32, b: Box, first: &mut [u32], second: &mut [u32])
     if second.len() < words {
         return Listing::Short(k);
     }
-    list_marks(t, most, b, first, second, k)
+    list_marks(t, capacity, most, b, first, second, k)
 }
 
 fn listed(

@@ -24,14 +24,14 @@ fn strike_own(t: &mut [u32], m: Mark) -> Update
     requires { ⌜ runsEnd (capacityOf (now t)) ≤ length (now t) ⌝ }
     ensures { λ r. ⌜ after (updateAnswer r) (now (t .exit)) ≡ strikeOwn♯ (markValue m) (now (t .entry)) ⌝ }
 {
-    let s = find::find(t, m);
+    let capacity = header::capacity(t);
+    let s = find::find(t, capacity, m);
     if s == limits::DAMAGED {
         return update::close(t);
     }
     if s == limits::ABSENT {
         return Update::Absent;
     }
-    let capacity = header::capacity(t);
     let rebuilt = whole_table::strike::strike(t, capacity, m, s);
     update::settle(t, rebuilt)
 }

@@ -62,7 +62,7 @@ module _ (from to : ℕ → ℕ) (C n : ℕ) (g : Region to C n) (clear : (s q :
         let here : recordAt zs (to name) ≡ arms (armOf A f l) (armOf A f r) =
         frame-record g (omega arith) (omega arith) fr inR name inC (λ k. k .1 refl)
         ∙ frame-record g (omega arith) (omega arith) fl inL name inC (λ k. omega (arith, k .0, d name, times-least r))
-        ∙ putRecord-same to xs name (armOf A f l) (armOf A f r) room in
+        ∙ putRecord-same xs (to name) (armOf A f l) (armOf A f r) room in
         let hl : Held A f to C zs l = held-frame A f g (omega arith) (omega arith) fr inR l (λ s k. inl (omega (arith, k .0, d s))) (cl .held) in
         let a : Frame to (Names (node i l r)) 0 0 xs zs =
         unchanged-trans (frame-weaken (names-own i l r d) (putRecord-frame to xs name (armOf A f l) (armOf A f r)))

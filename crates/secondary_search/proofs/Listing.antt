@@ -16,29 +16,26 @@ use Rattle.model.specs.Tree.{Tree, leaf, node, depth, marks, least}
 use Rattle.model.specs.Search.{inside, clear, searchList}
 use Rattle.model.specs.Sheet.{Mark, Box, sheet, holds, alongY}
 use Rattle.model.specs.Slots.{slotSpace, slotAxis}
-use Rattle.model.specs.Laws.{All, cons, SameBag}
+use Rattle.model.specs.Laws.{cons, SameBag}
 use Rattle.model.proofs.Logic.{by-cases}
 use Rattle.model.proofs.Lists.{all-left, all-right, countIf-append, sameBag-length}
 use Rattle.model.proofs.Slots.{map-append}
 use Rattle.model.proofs.Tree.{weight-pos, weight-marks, nodes, nodes-weight}
 use Rattle.table.specs.Layout.{recordPlace, listPlace}
 use Rattle.table.specs.Marks.{slotMark, putMark, markWords}
-use Rattle.nodes.specs.Arms.{arms, recordAt}
-use Rattle.nodes.specs.Holds.{number, armOf, Holds, CarriesBag}
+use Rattle.nodes.specs.Arms.{arms}
+use Rattle.nodes.specs.Holds.{number, armOf, Held, CarriesBag}
 use Rattle.table.specs.Tally.{visited, pack}
 use Rattle.table.specs.Limits.{lost}
 use Rattle.table.specs.After.{After, after}
 use Rattle.nodes.proofs.Frames.{sets-append}
+use Rattle.nodes.proofs.Held.{times-least, held-least, held-left, held-right}
 use Rattle.table.proofs.Lists.{markWords-append, markWords-length}
 use Rattle.table.proofs.Tallies.{visited-pack, pack-visits, pack-found}
 use Rattle.secondary_search.specs.List.{walkLeaf, walkRecord, walkNode, walk♯, listRecord, listNode, list♯}
 use Rattle.secondary_search.proofs.Counting.{Carries, leaf-clear, Settled, settled-holds}
 
 module _ (f : ℕ → Mark) where
-  -- the words have the marks of a tree's slots
-  abbrev pub Marked : List ℕ → Tree ℕ (List ℕ) → Type 0
-  Marked xs t = All (λ s. slotMark xs s ≡ f s) (marks t)
-
   -- the list with the marks of slots written from its mark k on
   abbrev pub written : ℕ → List ℕ → List ℕ → List ℕ
   written k l ys = sets ys (listPlace k) (markWords (map f l))
@@ -115,76 +112,77 @@ module _ (f : ℕ → Mark) (most : ℕ) (small : most < 4294967296) where
         q,
       )
 
-  module _ (base : ℕ) (xs : List ℕ) where
+  module _ (base C : ℕ) (xs : List ℕ) where
     leaf-writes : (s : ℕ) → slotMark xs s ≡ f s → Writes (walkLeaf xs s) (s ∷ []) 1
     unfolding walkLeaf putMark
     leaf-writes s e k v ys hv hk hy =
         rw (visited-pack k v 1 (omega arith) (omega arith), pack-found k v (omega arith), e, le-leb (listPlace k + 3) (length ys) (omega arith))
 
     -- a walk visits every node
-    walk-holds : (n : ℕ) (t : Tree ℕ (List ℕ)) → Holds alongY f (recordPlace base) xs t → Marked f xs t → depth t < n
-        → Writes (walk♯ n xs base most (number t)) (marks t) (nodes t)
+    walk-holds : (n : ℕ) (t : Tree ℕ (List ℕ)) → Held alongY f (recordPlace base) C xs t → depth t < n
+        → Writes (walk♯ n xs C base most (number t)) (marks t) (nodes t)
     unfolding walk♯ walkNode walkRecord
-    walk-holds zero t h m d = absurd (omega arith)
-    walk-holds (suc n) (leaf s) h (cons e m) d =
+    walk-holds zero t h d = absurd (omega arith)
+    walk-holds (suc n) (leaf s) h d =
         let even : (2 * s) % 2 ≡ 0 = omega arith in
         let half : (2 * s) / 2 ≡ s = omega arith in
-        rw (eq-eqb ((2 * s) % 2) 0 even, half) (budget-writes (walkLeaf xs s) (s ∷ []) 1 (omega arith) (leaf-writes s e))
-    walk-holds (suc n) (node i l r) h m d =
+        rw (half, lt-leb C s (held-least h), eq-eqb ((2 * s) % 2) 0 even)
+        (budget-writes (walkLeaf xs s) (s ∷ []) 1 (omega arith) (leaf-writes s (h .marked s (times-least {I = List ℕ} (leaf s)))))
+    walk-holds (suc n) (node i l r) h d =
         let odd : ((2 * least r + 1) % 2 ≡ 0 → ⊥) = omega arith in
         let half : (2 * least r + 1) / 2 ≡ least r = omega arith in
-        let rec = walk♯ n xs base most in
-        rw (ne-eqb ((2 * least r + 1) % 2) 0 odd, half, h .0)
+        let rec = walk♯ n xs C base most in
+        rw (half, lt-leb C (least r) (held-least (held-right h)), ne-eqb ((2 * least r + 1) % 2) 0 odd, h .records .0)
         (budget-writes (walkRecord rec (arms (armOf alongY f l) (armOf alongY f r))) (marks l ++ marks r) (nodes l + nodes r + 1) (omega arith)
         (both-writes (rec (number l)) (rec (number r)) (marks l) (marks r) (nodes l) (nodes r)
-        (walk-holds n l (h .1) (all-left (marks l) (marks r) m) (omega arith)) (walk-holds n r (h .2) (all-right (marks l) (marks r) m) (omega arith))))
+        (walk-holds n l (held-left h) (omega arith)) (walk-holds n r (held-right h) (omega arith))))
 
     module _ (b : Box) where
       -- the listing at an arm, by the three ways on
-      inside-writes : (n : ℕ) (t : Tree ℕ (List ℕ)) → inside (slotAxis f alongY) b t ≡ true → Holds alongY f (recordPlace base) xs t → Marked f xs t
-          → depth t < suc n → Writes (list♯ (suc n) xs base b most (armOf alongY f t)) (marks t) (nodes t)
+      inside-writes : (n : ℕ) (t : Tree ℕ (List ℕ)) → inside (slotAxis f alongY) b t ≡ true → Held alongY f (recordPlace base) C xs t
+          → depth t < suc n → Writes (list♯ (suc n) xs C base b most (armOf alongY f t)) (marks t) (nodes t)
       unfolding list♯ listNode
-      inside-writes n t e h m d =
+      inside-writes n t e h d =
           rw e
-          (budget-writes (walk♯ (suc n) xs base most (number t)) (marks t) (nodes t) (omega (arith, nodes-weight t, weight-pos t))
-          (walk-holds (suc n) t h m d))
+          (budget-writes (walk♯ (suc n) xs C base most (number t)) (marks t) (nodes t) (omega (arith, nodes-weight t, weight-pos t))
+          (walk-holds (suc n) t h d))
 
       clear-writes : (n : ℕ) (t : Tree ℕ (List ℕ)) → inside (slotAxis f alongY) b t ≡ false → clear (slotAxis f alongY) b t ≡ true
-          → Writes (list♯ (suc n) xs base b most (armOf alongY f t)) [] 1
+          → Writes (list♯ (suc n) xs C base b most (armOf alongY f t)) [] 1
       unfolding list♯ listNode
       clear-writes n t e u = rw (e, u) (budget-writes (λ tally ys. after (visited tally 0) ys) [] 1 (omega arith) none-writes)
 
       open-writes : (n : ℕ) (i : List ℕ) (l r : Tree ℕ (List ℕ)) (ml mr : List ℕ) (wl wr : ℕ)
           → inside (slotAxis f alongY) b (node i l r) ≡ false → clear (slotAxis f alongY) b (node i l r) ≡ false
-          → recordAt xs (recordPlace base (least r)) ≡ arms (armOf alongY f l) (armOf alongY f r)
-          → Writes (list♯ n xs base b most (armOf alongY f l)) ml wl → Writes (list♯ n xs base b most (armOf alongY f r)) mr wr
-          → Writes (list♯ (suc n) xs base b most (armOf alongY f (node i l r))) (ml ++ mr) (wl + wr + 1)
+          → Held alongY f (recordPlace base) C xs (node i l r)
+          → Writes (list♯ n xs C base b most (armOf alongY f l)) ml wl → Writes (list♯ n xs C base b most (armOf alongY f r)) mr wr
+          → Writes (list♯ (suc n) xs C base b most (armOf alongY f (node i l r))) (ml ++ mr) (wl + wr + 1)
       unfolding list♯ listNode listRecord
-      open-writes n i l r ml mr wl wr e u a hl hr =
+      open-writes n i l r ml mr wl wr e u h hl hr =
           let half : (2 * least r + 1) / 2 ≡ least r = omega arith in
-          let rec = list♯ n xs base b most in
-          rw (e, u, half, a)
+          let rec = list♯ n xs C base b most in
+          rw (e, u, half, lt-leb C (least r) (held-least (held-right h)), h .records .0)
           (budget-writes (listRecord rec (arms (armOf alongY f l) (armOf alongY f r))) (ml ++ mr) (wl + wr + 1) (omega arith)
           (both-writes (rec (armOf alongY f l)) (rec (armOf alongY f r)) ml mr wl wr hl hr))
 
-      pub list-holds : (n : ℕ) (t : Tree ℕ (List ℕ)) → Holds alongY f (recordPlace base) xs t → Carries t → Settled f b t → Marked f xs t → depth t < n
+      pub list-holds : (n : ℕ) (t : Tree ℕ (List ℕ)) → Held alongY f (recordPlace base) C xs t → Carries t → Settled f b t → depth t < n
           → (k v : ℕ) (ys : List ℕ) → v + listed f b t .visits ≤ most → k + length (met f b t) ≤ 65536 → listPlace (k + length (met f b t)) ≤ length ys
-          → list♯ n xs base b most (armOf alongY f t) (pack k v) ys
+          → list♯ n xs C base b most (armOf alongY f t) (pack k v) ys
           ≡ after (pack (k + length (met f b t)) (v + listed f b t .visits)) (sets ys (listPlace k) (markWords (map f (met f b t))))
-      list-holds zero t h c g m d = absurd (omega arith)
-      list-holds (suc n) (leaf s) h c (cons e g) m d =
+      list-holds zero t h c g d = absurd (omega arith)
+      list-holds (suc n) (leaf s) h c (cons e g) d =
           by-cases (onSide alongY b (f s .y))
-          (λ t. rw (settled-holds f b (f s) e, t) (inside-writes n (leaf s) t h m d))
+          (λ t. rw (settled-holds f b (f s) e, t) (inside-writes n (leaf s) t h d))
           (λ t. rw (settled-holds f b (f s) e, t) (clear-writes n (leaf s) t (leaf-clear b (f s .y) t)))
-      list-holds (suc n) (node i l r) h c g m d =
+      list-holds (suc n) (node i l r) h c g d =
           by-cases (inside (slotAxis f alongY) b (node i l r))
           (λ t.
           let w : 2 * length i - 2 + 1 ≡ nodes l + nodes r + 1 = omega (arith, c .0, nodes-weight l, nodes-weight r, weight-pos l, weight-pos r) in
-          rw (t, w) (inside-writes n (node i l r) t h m d))
+          rw (t, w) (inside-writes n (node i l r) t h d))
           (λ t. by-cases (clear (slotAxis f alongY) b (node i l r))
           (λ u. rw (t, u) (clear-writes n (node i l r) t u))
           (λ u.
           rw (t, u)
-          (open-writes n i l r (met f b l) (met f b r) (listed f b l .visits) (listed f b r .visits) t u (h .0)
-          (list-holds n l (h .1) (c .1) (all-left (marks l) (marks r) g) (all-left (marks l) (marks r) m) (omega arith))
-          (list-holds n r (h .2) (c .2) (all-right (marks l) (marks r) g) (all-right (marks l) (marks r) m) (omega arith)))))
+          (open-writes n i l r (met f b l) (met f b r) (listed f b l .visits) (listed f b r .visits) t u h
+          (list-holds n l (held-left h) (c .1) (all-left (marks l) (marks r) g) (omega arith))
+          (list-holds n r (held-right h) (c .2) (all-right (marks l) (marks r) g) (omega arith)))))

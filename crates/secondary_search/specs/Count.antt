@@ -15,25 +15,27 @@ auxiliaryKind = record {
   place = recordPlace;
   deeper = λ base. base;
   take = λ base a tally. visited tally (a .weight);
-  skip = λ a tally. visited tally 0;
+  before = λ a tally. visited tally 0;
+  past = λ tally. visited tally 0;
   visit = λ tally. visited tally 0;
   lost = lost;
 }
 
-abbrev pub low♯ : List ℕ → Box → ℕ → ℕ → ℕ → ℕ
-low♯ xs b base n tally = lowFrom auxiliaryKind (sideAlong alongY b) xs deepest base n tally
+module _ (xs : List ℕ) (capacity : ℕ) (b : Box) where
+  abbrev pub low♯ : ℕ → ℕ → ℕ → ℕ
+  low♯ base n tally = lowFrom auxiliaryKind (sideAlong alongY b) capacity xs deepest base n tally
 
-abbrev pub high♯ : List ℕ → Box → ℕ → ℕ → ℕ → ℕ
-high♯ xs b base n tally = highFrom auxiliaryKind (sideAlong alongY b) xs deepest base n tally
+  abbrev pub high♯ : ℕ → ℕ → ℕ → ℕ
+  high♯ base n tally = highFrom auxiliaryKind (sideAlong alongY b) capacity xs deepest base n tally
 
-abbrev pub lowEnd♯ : List ℕ → Box → ℕ → Arm → ℕ → ℕ
-lowEnd♯ xs b base a tally = lowEnd auxiliaryKind (sideAlong alongY b) xs base a tally
+  abbrev pub lowEnd♯ : ℕ → Arm → ℕ → ℕ
+  lowEnd♯ base a tally = lowEnd auxiliaryKind (sideAlong alongY b) capacity xs base a tally
 
-abbrev pub highEnd♯ : List ℕ → Box → ℕ → Arm → ℕ → ℕ
-highEnd♯ xs b base a tally = highEnd auxiliaryKind (sideAlong alongY b) xs base a tally
+  abbrev pub highEnd♯ : ℕ → Arm → ℕ → ℕ
+  highEnd♯ base a tally = highEnd auxiliaryKind (sideAlong alongY b) capacity xs base a tally
 
-abbrev pub opened♯ : List ℕ → Box → ℕ → ℕ → ℕ → ℕ
-opened♯ xs b base n tally = openFrom auxiliaryKind (sideAlong alongY b) xs deepest base n tally
+  abbrev pub opened♯ : ℕ → ℕ → ℕ → ℕ
+  opened♯ base n tally = openFrom auxiliaryKind (sideAlong alongY b) capacity xs deepest base n tally
 
-abbrev pub count♯ : List ℕ → Box → ℕ → Arm → ℕ → ℕ
-count♯ xs b base a tally = countTree auxiliaryKind (sideAlong alongY b) xs base a tally
+  abbrev pub count♯ : ℕ → Arm → ℕ → ℕ
+  count♯ base a tally = countTree auxiliaryKind (sideAlong alongY b) capacity xs base a tally

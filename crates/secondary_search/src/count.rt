@@ -1,7 +1,10 @@
 // Counting: the planner's inner loop. In an ordered tree the box's side begins in one child of a node and ends in one: the search goes down to the node
-// where the two ends part, and from there beneath each child with one end to look for.
+// where the two ends part, and from there beneath each child with one end to look for. A node that is of no slot of the table is damage.
 ghost use mathlib.Core.Path.{_≡_};
+ghost use Prim.Native.Nat.{_≤_};
+ghost use lib.ListN.{length};
 ghost use Rattle.geometry.specs.Values.{boxValue};
+ghost use Rattle.table.specs.Layout.{levelEnd};
 ghost use Rattle.nodes.specs.Values.{secondaryArm};
 ghost use Rattle.secondary_search.specs.Count.{low♯, high♯, lowEnd♯, highEnd♯, opened♯, count♯};
 use geometry::Box;
@@ -9,11 +12,12 @@ use nodes::secondary::Secondary;
 use nodes::secondary::SecondaryArm;
 use nodes::secondary::SecondaryRecord;
 use table::limits;
-use table::tally;
+use table::tally::Tally;
 
 // Beneath a node in which the side begins, and which ends on it.
-fn from_low(t: &[u32], base: u32, b: Box, start: Secondary, from: u64) -> u64
-    ensures { λ r. ⌜ r ≡ low♯ (now (t .entry)) (boxValue b) base (start .0) from ⌝ }
+fn from_low(t: &[u32], base: u32, capacity: u32, b: Box, start: Secondary, from: Tally) -> Tally
+    requires { ⌜ levelEnd base capacity ≤ length (now t) ⌝ }
+    ensures { λ r. ⌜ r .0 ≡ low♯ (now (t .entry)) capacity (boxValue b) base (start .0) (from .0) ⌝ }
 {
     let mut node = start;
     let mut tally = from;
@@ -21,8 +25,8 @@ fn from_low(t: &[u32], base: u32, b: Box, start: Secondary, from: u64) -> u64
     while 0 < left {
         left -= 1;
         let s = node.slot();
-        if SecondaryRecord::is_missing(t, base, s) {
-            return limits::LOST;
+        if capacity <= s {
+            return Tally::lost();
         }
         let p = SecondaryRecord::load(t, base, s);
         let l = p.left;
@@ -30,24 +34,25 @@ fn from_low(t: &[u32], base: u32, b: Box, start: Secondary, from: u64) -> u64
         let left_node = l.node;
         let right_node = r.node;
         if b.before_y(l.greatest) {
-            tally = tally::visit(tally, 0);
+            tally = tally.before(l.weight);
             if b.before_y(r.least) {
-                tally = tally::visit(tally, 0);
+                tally = tally.visit();
                 node = right_node;
             } else {
-                return tally::visit(tally, r.weight);
+                return tally.take(r.weight);
             }
         } else {
-            tally = tally::visit(tally::visit(tally, r.weight), 0);
+            tally = tally.take(r.weight).visit();
             node = left_node;
         }
     }
-    limits::LOST
+    Tally::lost()
 }
 
 // Beneath a node that begins on the side, and in which it ends.
-fn to_high(t: &[u32], base: u32, b: Box, start: Secondary, from: u64) -> u64
-    ensures { λ r. ⌜ r ≡ high♯ (now (t .entry)) (boxValue b) base (start .0) from ⌝ }
+fn to_high(t: &[u32], base: u32, capacity: u32, b: Box, start: Secondary, from: Tally) -> Tally
+    requires { ⌜ levelEnd base capacity ≤ length (now t) ⌝ }
+    ensures { λ r. ⌜ r .0 ≡ high♯ (now (t .entry)) capacity (boxValue b) base (start .0) (from .0) ⌝ }
 {
     let mut node = start;
     let mut tally = from;
@@ -55,8 +60,8 @@ fn to_high(t: &[u32], base: u32, b: Box, start: Secondary, from: u64) -> u64
     while 0 < left {
         left -= 1;
         let s = node.slot();
-        if SecondaryRecord::is_missing(t, base, s) {
-            return limits::LOST;
+        if capacity <= s {
+            return Tally::lost();
         }
         let p = SecondaryRecord::load(t, base, s);
         let l = p.left;
@@ -64,52 +69,53 @@ fn to_high(t: &[u32], base: u32, b: Box, start: Secondary, from: u64) -> u64
         let left_node = l.node;
         let right_node = r.node;
         if b.past_y(r.least) {
-            tally = tally::visit(tally, 0);
+            tally = tally.past();
             if b.past_y(l.greatest) {
-                tally = tally::visit(tally, 0);
+                tally = tally.visit();
                 node = left_node;
             } else {
-                return tally::visit(tally, l.weight);
+                return tally.take(l.weight);
             }
         } else {
-            tally = tally::visit(tally::visit(tally, l.weight), 0);
+            tally = tally.take(l.weight).visit();
             node = right_node;
         }
     }
-    limits::LOST
+    Tally::lost()
 }
 
 // The arrival at a tree that ends no later than the side, and at one that begins no earlier.
-fn low_end(t: &[u32], base: u32, b: Box, a: SecondaryArm, tally: u64) -> u64
-    ensures { λ r. ⌜ r ≡ lowEnd♯ (now (t .entry)) (boxValue b) base (secondaryArm a) tally ⌝ }
+fn low_end(t: &[u32], base: u32, capacity: u32, b: Box, a: SecondaryArm, tally: Tally) -> Tally
+    requires { ⌜ levelEnd base capacity ≤ length (now t) ⌝ }
+    ensures { λ r. ⌜ r .0 ≡ lowEnd♯ (now (t .entry)) capacity (boxValue b) base (secondaryArm a) (tally .0) ⌝ }
 {
     if b.before_y(a.greatest) {
-        return tally::visit(tally, 0);
+        return tally.before(a.weight);
     }
     if b.before_y(a.least) {
-        let n = a.node;
-        return from_low(t, base, b, n, tally::visit(tally, 0));
+        return from_low(t, base, capacity, b, a.node, tally.visit());
     }
-    tally::visit(tally, a.weight)
+    tally.take(a.weight)
 }
 
-fn high_end(t: &[u32], base: u32, b: Box, a: SecondaryArm, tally: u64) -> u64
-    ensures { λ r. ⌜ r ≡ highEnd♯ (now (t .entry)) (boxValue b) base (secondaryArm a) tally ⌝ }
+fn high_end(t: &[u32], base: u32, capacity: u32, b: Box, a: SecondaryArm, tally: Tally) -> Tally
+    requires { ⌜ levelEnd base capacity ≤ length (now t) ⌝ }
+    ensures { λ r. ⌜ r .0 ≡ highEnd♯ (now (t .entry)) capacity (boxValue b) base (secondaryArm a) (tally .0) ⌝ }
 {
     if b.past_y(a.least) {
-        return tally::visit(tally, 0);
+        return tally.past();
     }
     if b.past_y(a.greatest) {
-        let n = a.node;
-        return to_high(t, base, b, n, tally::visit(tally, 0));
+        return to_high(t, base, capacity, b, a.node, tally.visit());
     }
-    tally::visit(tally, a.weight)
+    tally.take(a.weight)
 }
 
-// Beneath a node whose cell is neither inside the side nor clear of it. Where the right child begins before the side, the left one is clear of it; where the
-// left child ends past the side, the right one is.
-fn opened(t: &[u32], base: u32, b: Box, start: Secondary, from: u64) -> u64
-    ensures { λ r. ⌜ r ≡ opened♯ (now (t .entry)) (boxValue b) base (start .0) from ⌝ }
+// Beneath a node whose cell is neither inside the side nor clear of it. Where the right child begins before the side, the left one ends before it; where the
+// left child ends past the side, the right one begins past it.
+fn opened(t: &[u32], base: u32, capacity: u32, b: Box, start: Secondary, from: Tally) -> Tally
+    requires { ⌜ levelEnd base capacity ≤ length (now t) ⌝ }
+    ensures { λ r. ⌜ r .0 ≡ opened♯ (now (t .entry)) capacity (boxValue b) base (start .0) (from .0) ⌝ }
 {
     let mut node = start;
     let mut tally = from;
@@ -117,8 +123,8 @@ fn opened(t: &[u32], base: u32, b: Box, start: Secondary, from: u64) -> u64
     while 0 < left {
         left -= 1;
         let s = node.slot();
-        if SecondaryRecord::is_missing(t, base, s) {
-            return limits::LOST;
+        if capacity <= s {
+            return Tally::lost();
         }
         let p = SecondaryRecord::load(t, base, s);
         let l = p.left;
@@ -126,30 +132,34 @@ fn opened(t: &[u32], base: u32, b: Box, start: Secondary, from: u64) -> u64
         let left_node = l.node;
         let right_node = r.node;
         if b.before_y(r.least) {
-            tally = tally::visit(tally::visit(tally, 0), 0);
+            tally = tally.before(l.weight).visit();
             node = right_node;
         } else {
             if b.past_y(l.greatest) {
-                tally = tally::visit(tally::visit(tally, 0), 0);
+                tally = tally.past().visit();
                 node = left_node;
             } else {
-                return high_end(t, base, b, r, low_end(t, base, b, l, tally));
+                let low = low_end(t, base, capacity, b, l, tally);
+                return high_end(t, base, capacity, b, r, low);
             }
         }
     }
-    limits::LOST
+    Tally::lost()
 }
 
 // The marks of a tree on the box's side, and the visits, onto a tally.
-pub fn count(t: &[u32], base: u32, b: Box, root: SecondaryArm, from: u64) -> u64
-    ensures { λ r. ⌜ r ≡ count♯ (now (t .entry)) (boxValue b) base (secondaryArm root) from ⌝ }
+pub fn count(t: &[u32], base: u32, capacity: u32, b: Box, root: SecondaryArm, from: Tally) -> Tally
+    requires { ⌜ levelEnd base capacity ≤ length (now t) ⌝ }
+    ensures { λ r. ⌜ r .0 ≡ count♯ (now (t .entry)) capacity (boxValue b) base (secondaryArm root) (from .0) ⌝ }
 {
     if b.inside_y(root.least, root.greatest) {
-        return tally::visit(from, root.weight);
+        return from.take(root.weight);
     }
-    if b.clear_y(root.least, root.greatest) {
-        return tally::visit(from, 0);
+    if b.before_y(root.greatest) {
+        return from.before(root.weight);
     }
-    let n = root.node;
-    opened(t, base, b, n, tally::visit(from, 0))
+    if b.past_y(root.least) {
+        return from.past();
+    }
+    opened(t, base, capacity, b, root.node, from.visit())
 }

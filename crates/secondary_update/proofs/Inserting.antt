@@ -28,9 +28,9 @@ use Rattle.table.specs.Words.{lesser, greater}
 use Rattle.nodes.specs.Holds.{number, armOf, times, Held}
 use Rattle.table.specs.After.{After, after}
 use Rattle.nodes.proofs.Unchanged.{unchanged-refl, putArm-unchanged}
-use Rattle.nodes.proofs.Frames.{Region, frameAt-weaken, putArm-frame}
+use Rattle.nodes.proofs.Frames.{putArm-same, Region, frameAt-weaken, putArm-frame}
 use Rattle.nodes.proofs.Held.{times-node, times-least, held-weight, held-least, held-left, held-right, leafArm-of, Names, greatest-marks, names-marks, Leaves}
-use Rattle.nodes.proofs.Spots.{record-arms, putArm-same, Spot, spot-weaken, record-spot, spot-mark, spot-held, LeavesAt, put-leaves, left-leaves, right-leaves}
+use Rattle.nodes.proofs.Spots.{record-arms, Spot, spot-weaken, record-spot, spot-mark, spot-held, LeavesAt, put-leaves, left-leaves, right-leaves}
 use Rattle.nodes.proofs.Collecting.{every-slot}
 use Rattle.secondary_build.specs.Build.{rebuild♯}
 use Rattle.secondary_build.proofs.Building.{rebuild-holds}
@@ -340,7 +340,7 @@ module _ {I : Type 0} (A : Axis Mark Box) (f : ℕ → Mark) (R : Register ℕ B
       named = held-least (held-right (k .held))
 
       children : arms (armAt widened (place (least r))) (armAt widened (place (least r) + 4)) ≡ arms (armOf A f l) (armOf A f r)
-      children = sym (record-arms widened (place (least r)) (widened-region .room (least r) named)) ∙ widened-held .records .0
+      children = sym (record-arms widened (place (least r))) ∙ widened-held .records .0
 
       once : (q : ℕ) → times q l + times q r + indicator (eqb q s) ≤ 1
       once q = omega (arith, grown-once (node i l r) (k .held) (k .new) q, times-node q i l r)

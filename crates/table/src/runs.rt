@@ -38,40 +38,7 @@ pub fn put_place(t: &mut [u32], capacity: u32, s: u32, i: u32)
     );
 }
 
-// The slot at place i of run A, and of run B.
-pub fn run(t: &[u32], capacity: u32, i: u32) -> u32
-    ensures { λ r. ⌜ r ≡ getD (now (t .entry)) (runPlace capacity i) 0 ⌝ }
-{
-    words::word(t, HEADER + (SLOT + 2) * (capacity as usize) + (i as usize))
-}
-
-pub fn put_run(t: &mut [u32], capacity: u32, i: u32, s: u32)
-    ensures { λ _. ⌜ now (t .exit) ≡ set (now (t .entry)) (runPlace capacity i) s ⌝ }
-{
-    words::put_word(
-        t,
-        HEADER + (SLOT + 2) * (capacity as usize) + (i as usize),
-        s,
-    );
-}
-
-pub fn second_run(t: &[u32], capacity: u32, i: u32) -> u32
-    ensures { λ r. ⌜ r ≡ getD (now (t .entry)) (secondRunPlace capacity i) 0 ⌝ }
-{
-    words::word(t, HEADER + (SLOT + 3) * (capacity as usize) + (i as usize))
-}
-
-pub fn put_second_run(t: &mut [u32], capacity: u32, i: u32, s: u32)
-    ensures { λ _. ⌜ now (t .exit) ≡ set (now (t .entry)) (secondRunPlace capacity i) s ⌝ }
-{
-    words::put_word(
-        t,
-        HEADER + (SLOT + 3) * (capacity as usize) + (i as usize),
-        s,
-    );
-}
-
-// The same where both runs are known to be there.
+// The slot at place i of run A, and of run B, which are there.
 pub fn load_run(t: &[u32], capacity: u32, i: u32) -> u32
     requires { ⌜ (i < capacity) × (runsEnd capacity ≤ length (now t)) ⌝ }
     ensures { λ r. ⌜ r ≡ getD (now (t .entry)) (runPlace capacity i) 0 ⌝ }

@@ -23,14 +23,7 @@ fn read_mark(t: &[u32], at: usize) -> Mark
     }
 }
 
-// The mark in slot s.
-pub fn mark_at(t: &[u32], s: u32) -> Mark
-    ensures { λ r. ⌜ markValue r ≡ slotMark (now (t .entry)) s ⌝ }
-{
-    read_mark(t, layout::HEADER + layout::SLOT * (s as usize))
-}
-
-// The same where its words are known to be there.
+// The mark in slot s, whose words are there.
 pub fn load(t: &[u32], s: u32) -> Mark
     requires { ⌜ slotPlace s + markWidth ≤ length (now t) ⌝ }
     ensures { λ r. ⌜ markValue r ≡ slotMark (now (t .entry)) s ⌝ }
@@ -61,11 +54,15 @@ fn put_mark(t: &mut [u32], at: usize, m: Mark)
     }
 }
 
-// Puts a mark into slot s.
-pub fn put_slot(t: &mut [u32], s: u32, m: Mark)
+// Puts a mark into slot s, whose words are there.
+pub fn store(t: &mut [u32], s: u32, m: Mark)
+    requires { ⌜ slotPlace s + markWidth ≤ length (now t) ⌝ }
     ensures { λ _. ⌜ now (t .exit) ≡ putMark (now (t .entry)) (slotPlace s) (markValue m) ⌝ }
 {
-    put_mark(t, layout::HEADER + layout::SLOT * (s as usize), m);
+    let at = layout::HEADER + layout::SLOT * (s as usize);
+    t[at] = m.x;
+    t[at + 1] = m.y;
+    t[at + 2] = m.tag;
 }
 
 // Puts a mark at the place k of a list.

@@ -1,23 +1,70 @@
-// What a search has come to so far, in one number: 2^32 times the marks found, and the visits.
+// What a search has come to so far. One number, which stays in a register: 2^32 times the marks found, and the visits. No other file knows how it is packed.
 ghost use mathlib.Core.Path.{_≡_};
 ghost use Prim.Native.Nat.{_/_, _%_};
+ghost use Rattle.table.specs.Limits.{lost};
 ghost use Rattle.table.specs.Tally.{visited};
+use crate::limits;
 
-// One visit more, with w marks.
-pub fn visit(tally: u64, w: u32) -> u64
-    ensures { λ r. ⌜ r ≡ visited tally w ⌝ }
-{
-    std::num::wrapping_add_u64(tally, 4294967296 * (w as u64) + 1)
-}
+pub struct Tally(pub u64);
 
-pub fn visits(tally: u64) -> u32
-    ensures { λ r. ⌜ r ≡ tally % 4294967296 ⌝ }
-{
-    (tally % 4294967296) as u32
-}
+impl Tally {
+    pub fn none() -> Tally
+        ensures { λ r. ⌜ r .0 ≡ 0 ⌝ }
+    {
+        Tally(0)
+    }
 
-pub fn found(tally: u64) -> u32
-    ensures { λ r. ⌜ r ≡ tally / 4294967296 ⌝ }
-{
-    (tally / 4294967296) as u32
+    // Of a search that met damage.
+    pub fn lost() -> Tally
+        ensures { λ r. ⌜ r .0 ≡ lost ⌝ }
+    {
+        Tally(limits::LOST)
+    }
+
+    // One visit more, with w marks.
+    fn with(self, w: u32) -> Tally
+        ensures { λ r. ⌜ r .0 ≡ visited (self .0) w ⌝ }
+    {
+        Tally(std::num::wrapping_add_u64(self.0, 4294967296 * (w as u64) + 1))
+    }
+
+    // The arrival at a node that is opened, or of which nothing is counted.
+    pub fn visit(self) -> Tally
+        ensures { λ r. ⌜ r .0 ≡ visited (self .0) 0 ⌝ }
+    {
+        self.with(0)
+    }
+
+    // At a tree of weight w inside the side.
+    pub fn take(self, w: u32) -> Tally
+        ensures { λ r. ⌜ r .0 ≡ visited (self .0) w ⌝ }
+    {
+        self.with(w)
+    }
+
+    // At a tree of weight w that ends before the side.
+    pub fn before(self, w: u32) -> Tally
+        ensures { λ r. ⌜ r .0 ≡ visited (self .0) 0 ⌝ }
+    {
+        self.with(0)
+    }
+
+    // At a tree that begins past the side.
+    pub fn past(self) -> Tally
+        ensures { λ r. ⌜ r .0 ≡ visited (self .0) 0 ⌝ }
+    {
+        self.with(0)
+    }
+
+    pub fn visits(self) -> u32
+        ensures { λ r. ⌜ r ≡ self .0 % 4294967296 ⌝ }
+    {
+        (self.0 % 4294967296) as u32
+    }
+
+    pub fn found(self) -> u32
+        ensures { λ r. ⌜ r ≡ self .0 / 4294967296 ⌝ }
+    {
+        (self.0 / 4294967296) as u32
+    }
 }

@@ -13,9 +13,8 @@ use Rattle.table.specs.Layout.{mainPlace, auxiliaryPlace, rootPlace, levelPlace
 use Rattle.nodes.specs.Arms.{Arm, arms, overArm, recordAt, putArm, putRecord}
 use Rattle.nodes.specs.Holds.{armOf, times, Held}
 use Rattle.nodes.proofs.Unchanged.{unchanged-trans, unchanged-record, putArm-unchanged, putRecord-unchanged}
-use Rattle.nodes.proofs.Frames.{putRecord-same}
+use Rattle.nodes.proofs.Frames.{putArm-same, putRecord-same}
 use Rattle.nodes.proofs.Held.{times-least, held-least, held-weight, overArm-of, Names, names-own}
-use Rattle.nodes.proofs.Spots.{putArm-same}
 use Rattle.twofold_layout.specs.Rules.{SlotAuxiliary, SlotMain, AuxiliariesOf}
 use Rattle.twofold_layout.specs.TwoFold.{TwoFold}
 use Rattle.twofold_layout.proofs.Frames.{TwoFrame, twoFrame-weaken, twoFrame-at, arm-twoFrame, auxiliary-twoFrame, record-twoFrame, root-spot}
@@ -59,7 +58,7 @@ module _ {f : ℕ → Mark} {C d : ℕ} (small : C ≤ 65536) (l r : SlotMain) (
   written-record : recordAt written (mainPlace (least r)) ≡ arms (armOf alongX f l) (armOf alongX f r)
   written-record =
       unchanged-record (putArm-unchanged recorded (auxiliaryPlace (least r)) (armOf alongY f x)) (mainPlace (least r)) (omega arith)
-      ∙ putRecord-same mainPlace xs (least r) (armOf alongX f l) (armOf alongX f r) (omega (arith, room))
+      ∙ putRecord-same xs (mainPlace (least r)) (armOf alongX f l) (armOf alongX f r) (omega (arith, room))
 
   written-left : TwoFold f C (suc d) written l
   written-left =

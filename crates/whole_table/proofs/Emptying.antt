@@ -17,8 +17,8 @@ use Rattle.model.specs.Laws.{nil}
 use Rattle.model.proofs.Logic.{by-cases}
 use Rattle.table.specs.Layout.{openPlace, capacityPlace, livePlace, rootPlace, usedPlace, placePlace, runPlace}
 use Rattle.nodes.specs.Arms.{noArm, armAt, putArm}
+use Rattle.nodes.proofs.Frames.{putArm-same}
 use Rattle.nodes.proofs.Unchanged.{Off, Unchanged, unchanged-refl, unchanged-trans, unchanged-weaken, unchanged-arm, set-unchanged, putArm-unchanged}
-use Rattle.nodes.proofs.Spots.{putArm-same}
 use Rattle.table.specs.Header.{capacityOf, liveOf}
 use Rattle.twofold_layout.specs.Sound.{EachOnce, Holding}
 use Rattle.whole_table.specs.Empty.{ownPlace, freeSlots♯, empty♯}

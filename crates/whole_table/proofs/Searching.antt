@@ -11,7 +11,7 @@ use lib.ListN.{length, length-map}
 use lib.Seq.{sets}
 use borrow.Author.Tests.{eq-eqb}
 use Rattle.model.specs.Lists.{countIf, filterBy, sort}
-use Rattle.model.specs.Sizes.{D}
+use Rattle.model.specs.Sizes.{D, W}
 use Rattle.model.specs.Tree.{weight, depth, marks, marksOf}
 use Rattle.model.specs.Sheet.{Mark, Box, boxCrossed, same, holds, belowX, Main, main}
 use Rattle.model.specs.Laws.{SameBag}
@@ -39,7 +39,6 @@ use Rattle.primary_search.specs.List.{mainList♯}
 use Rattle.primary_search.proofs.Finding.{find-none, find-holds, find-absent}
 use Rattle.primary_search.proofs.Counting.{count-none, count-main-holds}
 use Rattle.primary_search.proofs.Listing.{mainMet, mainMet-listed, list-none, list-main-holds}
-use Rattle.twofold_layout.proofs.Over.{two-main}
 use Rattle.twofold_layout.specs.Sound.{HoldsTree, TreeByRules, Holding}
 use Rattle.table.specs.Header.{capacityOf}
 use Rattle.twofold_layout.proofs.Sound.{live-slots, live-within}
@@ -65,29 +64,29 @@ module _ (xs : List ℕ) where
   agrees-of (some t) r =
       subst (Agrees (marksMain (slotMark xs) (some t))) (sym (stands-marks (slotMark xs) (some t))) (rules-agrees (slotMark xs) t r)
 
-  find-of : (o : Option SlotMain) → HoldsTree xs o → TreeByRules xs o → capacityOf xs ≤ 65536 → 64 + 16 * capacityOf xs ≤ length xs → (s : ℕ)
+  find-of : (o : Option SlotMain) → HoldsTree xs o → TreeByRules xs o → capacityOf xs ≤ 65536 → (s : ℕ)
       → 0 < timesIn s (marksOf o)
       → (find♯ xs (slotMark xs s) ≡ s) × (s < capacityOf xs) × (timesIn s (marksOf o) ≡ 1)
-  find-of none k r small room s n = absurd (omega arith)
-  find-of (some t) k r small room s n =
+  find-of none k r small s n = absurd (omega arith)
+  find-of (some t) k r small s n =
       let g = k .1 .main in (
-        find-holds (slotMark xs) (capacityOf xs) xs t (k .0) refl room g (r .sorted) (omega (arith, held-shallow g (r .balanced) small)) s n,
+        find-holds (slotMark xs) (capacityOf xs) xs t (k .0) refl g (r .sorted) (omega (arith, held-shallow g (r .balanced) small)) s n,
         g .within s n,
         omega (arith, g .once s),
       )
 
-  missing-of : (o : Option SlotMain) → HoldsTree xs o → TreeByRules xs o → capacityOf xs ≤ 65536 → 64 + 16 * capacityOf xs ≤ length xs → (m : Mark)
+  missing-of : (o : Option SlotMain) → HoldsTree xs o → TreeByRules xs o → capacityOf xs ≤ 65536 → (m : Mark)
       → countIf (λ s. same m (slotMark xs s)) (marksOf o) ≡ 0 → find♯ xs m ≡ absent
-  missing-of none k r small room m n = find-none xs m k
-  missing-of (some t) k r small room m n =
+  missing-of none k r small m n = find-none xs m k
+  missing-of (some t) k r small m n =
       let g = k .1 .main in
-      find-absent (slotMark xs) (capacityOf xs) xs t (k .0) refl room g (omega (arith, held-shallow g (r .balanced) small)) m n
+      find-absent (slotMark xs) (capacityOf xs) xs t (k .0) refl g (omega (arith, held-shallow g (r .balanced) small)) m n
 
-  count-of : (o : Option SlotMain) → HoldsTree xs o → TreeByRules xs o → capacityOf xs ≤ 65536 → (b : Box) → boxCrossed b ≡ false
+  count-of : (o : Option SlotMain) → HoldsTree xs o → TreeByRules xs o → capacityOf xs ≤ 65536 → W (capacityOf xs) ≤ length xs → (b : Box) → boxCrossed b ≡ false
       → slotMain (slotMark xs) .count b o .visits ≤ mostVisits
       → mainCount♯ xs b ≡ pack (slotMain (slotMark xs) .count b o .found) (slotMain (slotMark xs) .count b o .visits)
-  count-of none k r small b fine n = count-none xs b k
-  count-of (some t) k r small b fine n = count-main-holds (slotMark xs) (capacityOf xs) xs t (k .0) (k .1) r small refl b fine n
+  count-of none k r small long b fine n = count-none xs b k
+  count-of (some t) k r small long b fine n = count-main-holds (slotMark xs) (capacityOf xs) xs t (k .0) (k .1) r small long refl b fine n
 
   -- the slots that a listing meets
   metOf : Box → Option SlotMain → List ℕ
@@ -99,14 +98,14 @@ module _ (xs : List ℕ) where
   met-bag b none r p = refl
   met-bag b (some t) r p = mainMet-listed (slotMark xs) b t r p
 
-  list-of : (o : Option SlotMain) → HoldsTree xs o → TreeByRules xs o → capacityOf xs ≤ 65536 → (b : Box) (most : ℕ) → most < 2147483648
+  list-of : (o : Option SlotMain) → HoldsTree xs o → TreeByRules xs o → capacityOf xs ≤ 65536 → W (capacityOf xs) ≤ length xs → (b : Box) (most : ℕ) → most < 2147483648
       → slotMain (slotMark xs) .list b o .visits ≤ most → (ys : List ℕ) → 3 * length (metOf b o) ≤ length ys → length (metOf b o) ≤ 65536
       → mainList♯ xs b most ys
       ≡ after (pack (length (metOf b o)) (slotMain (slotMark xs) .list b o .visits)) (sets ys 0 (markWords (map (slotMark xs) (metOf b o))))
   unfolding metOf
-  list-of none k r small b most few n ys room fit = list-none xs b most ys k
-  list-of (some t) k r small b most few n ys room fit =
-      list-main-holds (slotMark xs) (capacityOf xs) xs t (k .0) (k .1) r small refl b most few n ys room fit
+  list-of none k r small long b most few n ys room fit = list-none xs b most ys k
+  list-of (some t) k r small long b most few n ys room fit =
+      list-main-holds (slotMark xs) (capacityOf xs) xs t (k .0) (k .1) r small long refl b most few n ys room fit
 
 -- what a listing leaves: the marks l written, as the model has them but perhaps in another order
 pub record Lists (xs : List ℕ) (T : Main) (b : Box) (most : ℕ) (ys : List ℕ) : Type 0 where
@@ -126,8 +125,8 @@ module _ (xs : List ℕ) (T : Main) (h : Holding xs T) where
   pub holding-small : capacityOf xs ≤ 65536
   holding-small = capacity-small (capacityOf xs) (h .capacity)
 
-  holding-room : 64 + 16 * capacityOf xs ≤ length xs
-  holding-room = let r = two-main holding-small (h .long) .runRoom in omega arith
+  holding-room : W (capacityOf xs) ≤ length xs
+  holding-room = omega (arith, h .long)
 
   -- the marks are those of the slots
   pub holding-marks : marksOf T ≡ map (slotMark xs) (marksOf (h .slots))
@@ -154,13 +153,13 @@ module _ (xs : List ℕ) (T : Main) (h : Holding xs T) where
       → (find♯ xs m < capacityOf xs) × (slotMark xs (find♯ xs m) ≡ m) × (timesIn (find♯ xs m) (marksOf (h .slots)) ≡ 1)
   find-sound m n =
       let a = slot-of (slotMark xs) m (marksOf (h .slots)) (subst (λ l. 0 < countIf (same m) l) holding-marks n) in
-      let k = find-of xs (h .slots) (h .holds) (h .rules) holding-small holding-room (a .0) (a .1) in
+      let k = find-of xs (h .slots) (h .holds) (h .rules) holding-small (a .0) (a .1) in
       let e : find♯ xs m ≡ a .0 = ap (find♯ xs) (a .2) ∙ k .0 in
       rw e (k .1, sym (a .2), k .2)
 
   pub find-missing : (m : Mark) → countIf (same m) (marksOf T) ≡ 0 → find♯ xs m ≡ absent
   find-missing m n =
-      missing-of xs (h .slots) (h .holds) (h .rules) holding-small holding-room m
+      missing-of xs (h .slots) (h .holds) (h .rules) holding-small m
       (sym (countIf-map (slotMark xs) (same m) (marksOf (h .slots))) ∙ ap (countIf (same m)) (sym holding-marks) ∙ n)
 
   module _ (b : Box) where
@@ -186,7 +185,7 @@ module _ (xs : List ℕ) (T : Main) (h : Holding xs T) where
 
     pub count-sound : boxCrossed b ≡ false → mainCount♯ xs b ≡ pack (main .count b T .found) (main .count b T .visits)
     count-sound fine =
-        count-of xs (h .slots) (h .holds) (h .rules) holding-small b fine (subst (λ a. a .visits ≤ mostVisits) (sym stands-found) count-most)
+        count-of xs (h .slots) (h .holds) (h .rules) holding-small holding-room b fine (subst (λ a. a .visits ≤ mostVisits) (sym stands-found) count-most)
         ∙ ap (λ a. pack (a .found) (a .visits)) stands-found
 
     -- the list
@@ -232,7 +231,7 @@ module _ (xs : List ℕ) (T : Main) (h : Holding xs T) where
         record {
           met = map (slotMark xs) met-slots;
           is =
-              list-of xs (h .slots) (h .holds) (h .rules) holding-small b most few (omega arith) ys (omega arith) fit
+              list-of xs (h .slots) (h .holds) (h .rules) holding-small holding-room b most few (omega arith) ys (omega arith) fit
               ∙ ap (λ v. after (pack (length met-slots) v) (sets ys 0 (markWords (map (slotMark xs) met-slots)))) e
               ∙ ap (λ k. after (pack k (main .list b T .visits)) (sets ys 0 (markWords (map (slotMark xs) met-slots))))
               (sym (length-map met-slots (slotMark xs)));

@@ -21,7 +21,7 @@ pub fn insert(t: &mut [u32], capacity: u32, m: Mark) -> u32
     if capacity <= s {
         return limits::DAMAGED;
     }
-    slots::put_slot(t, s, m);
+    slots::store(t, s, m);
     header::put_live(t, weights::sum(live, 1));
     primary_insert::insert::insert(t, capacity, m, s)
 }

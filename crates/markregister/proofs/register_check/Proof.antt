@@ -3,10 +3,6 @@ use mathlib.Core.Path.{sym, subst}
 use borrow.Author.Needs.{needs}
 use Rattle.markregister.proofs.register_check.Statement.{statement}
 use Rattle.markregister.proofs.register_check.Tie as tie
-use Rattle.markregister.proofs.register_check.Reads as reads
-use Rattle.markregister.proofs.register_check.Lts as lts
-use Rattle.register.proofs.answers.Check.figures.Reads as figures-reads
-use Rattle.register.proofs.check.check.Reads as check-reads
 
 -- src/lib.rt:114:13
 check-requires : tie.Need-check-requires

@@ -3,10 +3,6 @@ use mathlib.Core.Path.{sym, subst}
 use borrow.Author.Needs.{needs}
 use Rattle.markregister.proofs.register_count.Statement.{statement}
 use Rattle.markregister.proofs.register_count.Tie as tie
-use Rattle.markregister.proofs.register_count.Reads as reads
-use Rattle.markregister.proofs.register_count.Lts as lts
-use Rattle.register.proofs.answers.Count.figures.Reads as figures-reads
-use Rattle.register.proofs.count.count.Reads as count-reads
 
 -- src/lib.rt:78:13
 count-requires : tie.Need-count-requires

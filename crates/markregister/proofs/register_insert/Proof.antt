@@ -3,10 +3,6 @@ use mathlib.Core.Path.{sym, subst}
 use borrow.Author.Needs.{needs}
 use Rattle.markregister.proofs.register_insert.Statement.{statement}
 use Rattle.markregister.proofs.register_insert.Tie as tie
-use Rattle.markregister.proofs.register_insert.Reads as reads
-use Rattle.markregister.proofs.register_insert.Lts as lts
-use Rattle.register.proofs.answers.Update.figures.Reads as figures-reads
-use Rattle.register.proofs.insert.insert.Reads as insert-reads
 
 -- src/lib.rt:41:13
 insert-requires : tie.Need-insert-requires

@@ -2,10 +2,6 @@ use Rattle.markregister.proofs.Given.{list-given}
 use borrow.Author.Needs.{needs}
 use Rattle.markregister.proofs.register_list.Statement.{statement}
 use Rattle.markregister.proofs.register_list.Tie as tie
-use Rattle.markregister.proofs.register_list.Reads as reads
-use Rattle.markregister.proofs.register_list.Lts as lts
-use Rattle.register.proofs.answers.Listing.figures.Reads as figures-reads
-use Rattle.register.proofs.list.list.Reads as list-reads
 
 -- src/lib.rt:103:13
 list-requires : tie.Need-list-requires

@@ -3,10 +3,6 @@ use mathlib.Core.Path.{sym, subst}
 use borrow.Author.Needs.{needs}
 use Rattle.markregister.proofs.register_open.Statement.{statement}
 use Rattle.markregister.proofs.register_open.Tie as tie
-use Rattle.markregister.proofs.register_open.Reads as reads
-use Rattle.markregister.proofs.register_open.Lts as lts
-use Rattle.register.proofs.answers.Opening.figures.Reads as figures-reads
-use Rattle.register.proofs.open.open.Reads as open-reads
 
 -- src/lib.rt:24:13
 open-requires : tie.Need-open-requires

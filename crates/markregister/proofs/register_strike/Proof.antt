@@ -3,10 +3,6 @@ use mathlib.Core.Path.{sym, subst}
 use borrow.Author.Needs.{needs}
 use Rattle.markregister.proofs.register_strike.Statement.{statement}
 use Rattle.markregister.proofs.register_strike.Tie as tie
-use Rattle.markregister.proofs.register_strike.Reads as reads
-use Rattle.markregister.proofs.register_strike.Lts as lts
-use Rattle.register.proofs.answers.Update.figures.Reads as figures-reads
-use Rattle.register.proofs.strike.strike.Reads as strike-reads
 
 -- src/lib.rt:59:13
 strike-requires : tie.Need-strike-requires

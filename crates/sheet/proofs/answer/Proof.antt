@@ -11,10 +11,6 @@ use Rattle.dialogue.specs.Dialogue.{dialogue, FedThrough}
 use Rattle.dialogue.proofs.Feeding.{fed-none, fed-on}
 use Rattle.sheet.proofs.answer.Statement.{statement}
 use Rattle.sheet.proofs.answer.Tie as tie
-use Rattle.sheet.proofs.answer.Reads as reads
-use Rattle.sheet.proofs.answer.Lts as lts
-use Rattle.dialogue.proofs.batch.feed_some.Reads as feed-some-reads
-use Rattle.io.proofs.write_all.Reads as write-all-reads
 
 abbrev Inv-loop : tie.InvT-loop
 Inv-loop table₀ first₀ second₀ line₀ len chunk out₀ begun₀ at₀ table first second line out begun at =

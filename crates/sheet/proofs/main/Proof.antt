@@ -9,10 +9,6 @@ use Rattle.dialogue.proofs.Printing.{open-begins}
 use borrow.Author.Needs.{needs}
 use Rattle.sheet.proofs.main.Statement.{statement}
 use Rattle.sheet.proofs.main.Tie as tie
-use Rattle.sheet.proofs.main.Reads as reads
-use Rattle.sheet.proofs.main.Lts as lts
-use Rattle.register.proofs.open.open.Reads as open-reads
-use Rattle.sheet.proofs.run.Reads as run-reads
 
 slice-aggregate-open : tie.Need-slice-aggregate-open
 slice-aggregate-open c = search needs

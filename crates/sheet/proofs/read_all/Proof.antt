@@ -4,9 +4,6 @@ use lib.ListN.{length}
 use borrow.Author.Needs.{needs}
 use Rattle.sheet.proofs.read_all.Statement.{statement}
 use Rattle.sheet.proofs.read_all.Tie as tie
-use Rattle.sheet.proofs.read_all.Reads as reads
-use Rattle.sheet.proofs.read_all.Lts as lts
-use Rattle.sheet.proofs.read_some.Reads as read-some-reads
 
 abbrev Inv-loop : tie.InvT-loop
 Inv-loop table₀ first₀ second₀ line₀ out₀ len₀ turns₀ table first second line out len turns =

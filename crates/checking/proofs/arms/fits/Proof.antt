@@ -2,12 +2,6 @@ use borrow.Author.Needs.{needs}
 use Rattle.checking.proofs.arms.fits.Statement.{statement}
 use Rattle.checking.specs.Span.{fits♯}
 use Rattle.checking.proofs.arms.fits.Tie as tie
-use Rattle.checking.proofs.arms.fits.Reads as reads
-use Rattle.checking.proofs.arms.fits.Lts as lts
-use Rattle.checking.proofs.arms.same.Reads as same-reads
-use Rattle.nodes.proofs.arm.Arm.over.Reads as over-reads
-use Rattle.nodes.proofs.weights.balanced.Reads as balanced-reads
-use Rattle.nodes.proofs.weights.disagree.Reads as disagree-reads
 
 -- src/arms.rt:25:8
 disagree-requires : tie.Need-disagree-requires

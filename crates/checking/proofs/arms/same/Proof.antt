@@ -2,8 +2,6 @@ use Rattle.checking.proofs.arms.same.Statement.{statement}
 use borrow.Author.Tests.{eq-eqb, ne-eqb}
 use Rattle.checking.specs.Span.{sameArm}
 use Rattle.checking.proofs.arms.same.Tie as tie
-use Rattle.checking.proofs.arms.same.Reads as reads
-use Rattle.checking.proofs.arms.same.Lts as lts
 
 -- src/arms.rt:14:17
 returns : tie.Need-returns

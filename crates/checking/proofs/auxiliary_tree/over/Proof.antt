@@ -3,13 +3,6 @@ use Rattle.checking.proofs.auxiliary_tree.over.Statement.{statement}
 use Rattle.checking.specs.Span.{spanOver}
 use mathlib.Core.Logic.{⊎-elim}
 use Rattle.checking.proofs.auxiliary_tree.over.Tie as tie
-use Rattle.checking.proofs.auxiliary_tree.over.Reads as reads
-use Rattle.checking.proofs.auxiliary_tree.over.Lts as lts
-use Rattle.checking.proofs.ends.between.Reads as between-reads
-use Rattle.checking.proofs.ends.joins.Reads as joins-reads
-use Rattle.checking.proofs.ends.none.Reads as none-reads
-use Rattle.geometry.proofs.Mark.below_y.Reads as below-y-reads
-use Rattle.table.proofs.slots.load.Reads as load-reads
 
 -- src/auxiliary_tree.rt:67:8
 joins-requires : tie.Need-joins-requires

@@ -7,9 +7,6 @@ use Rattle.checking.proofs.check.check.Statement.{statement}
 use Rattle.checking.specs.Verdict.{Verdict}
 use Rattle.checking.proofs.Exact.{check-exact}
 use Rattle.checking.proofs.check.check.Tie as tie
-use Rattle.checking.proofs.check.check.Reads as reads
-use Rattle.checking.proofs.check.check.Lts as lts
-use Rattle.checking.proofs.check.live_marks.Reads as live-marks-reads
 
 -- src/check.rt:50:5
 live-marks-requires : tie.Need-live-marks-requires

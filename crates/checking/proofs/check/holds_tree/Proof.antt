@@ -3,12 +3,6 @@ use Rattle.checking.proofs.check.holds_tree.Statement.{statement}
 use borrow.Author.Tests.{eq-eqb, ne-eqb}
 use Rattle.checking.specs.Check.{rootStands, soundTree♯}
 use Rattle.checking.proofs.check.holds_tree.Tie as tie
-use Rattle.checking.proofs.check.holds_tree.Reads as reads
-use Rattle.checking.proofs.check.holds_tree.Lts as lts
-use Rattle.checking.proofs.main_tree.tree.Reads as tree-reads
-use Rattle.checking.proofs.slots.inverse.Reads as inverse-reads
-use Rattle.nodes.proofs.primary.PrimaryArm.load.Reads as load-reads
-use Rattle.twofold_layout.proofs.levels.top.Reads as top-reads
 
 -- src/check.rt:21:8
 inverse-requires : tie.Need-inverse-requires

@@ -9,12 +9,6 @@ use Rattle.checking.proofs.check.live_marks.Statement.{statement}
 use borrow.Author.Tests.{eq-eqb, le-ltb, lt-ltb, ne-eqb}
 use Rattle.checking.specs.Check.{live♯}
 use Rattle.checking.proofs.check.live_marks.Tie as tie
-use Rattle.checking.proofs.check.live_marks.Reads as reads
-use Rattle.checking.proofs.check.live_marks.Lts as lts
-use Rattle.checking.proofs.check.holds_tree.Reads as holds-tree-reads
-use Rattle.table.proofs.header.capacity.Reads as capacity-reads
-use Rattle.table.proofs.header.live.Reads as live-reads
-use Rattle.table.proofs.header.own_words.Reads as own-words-reads
 
 -- src/check.rt:45:9
 own-words-requires : tie.Need-own-words-requires

@@ -1,8 +1,6 @@
 use Rattle.checking.proofs.ends.joins.Statement.{statement}
 use Rattle.checking.specs.Span.{joins♯}
 use Rattle.checking.proofs.ends.joins.Tie as tie
-use Rattle.checking.proofs.ends.joins.Reads as reads
-use Rattle.checking.proofs.ends.joins.Lts as lts
 
 -- src/ends.rt:39:13
 returns : tie.Need-returns

@@ -3,10 +3,6 @@ use Rattle.checking.proofs.main_tree.auxiliary_stands.Statement.{statem
 use Rattle.checking.specs.Trees.{auxiliaryStands♯}
 use borrow.Author.Tests.{eq-eqb, le-ltb, lt-ltb, ne-eqb}
 use Rattle.checking.proofs.main_tree.auxiliary_stands.Tie as tie
-use Rattle.checking.proofs.main_tree.auxiliary_stands.Reads as reads
-use Rattle.checking.proofs.main_tree.auxiliary_stands.Lts as lts
-use Rattle.checking.proofs.auxiliary_tree.tree.Reads as tree-reads
-use Rattle.nodes.proofs.primary.PrimaryRecord.load_auxiliary.Reads as load-auxiliary-reads
 
 -- src/main_tree.rt:67:36
 mul-if1 : tie.Need-mul-if1

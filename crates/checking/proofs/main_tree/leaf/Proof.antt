@@ -4,15 +4,6 @@ use Rattle.checking.specs.Trees.{mainSlot♯}
 use Rattle.checking.specs.Span.{spanLeaf}
 use mathlib.Core.Logic.{⊎-elim}
 use Rattle.checking.proofs.main_tree.leaf.Tie as tie
-use Rattle.checking.proofs.main_tree.leaf.Reads as reads
-use Rattle.checking.proofs.main_tree.leaf.Lts as lts
-use Rattle.checking.proofs.arms.same.Reads as same-reads
-use Rattle.checking.proofs.ends.between.Reads as between-reads
-use Rattle.checking.proofs.ends.none.Reads as none-reads
-use Rattle.checking.proofs.main_tree.may_stand.Reads as may-stand-reads
-use Rattle.nodes.proofs.arm.Arm.leaf.Reads as leaf-reads
-use Rattle.nodes.proofs.primary.PrimaryArm.bare.Reads as bare-reads
-use Rattle.table.proofs.slots.load.Reads as load-reads
 
 -- src/main_tree.rt:43:8
 may-stand-requires : tie.Need-may-stand-requires

@@ -3,14 +3,6 @@ use borrow.Author.Needs.{needs}
 use Rattle.checking.proofs.main_tree.over.Statement.{statement}
 use Rattle.checking.specs.Span.{spanOver}
 use Rattle.checking.proofs.main_tree.over.Tie as tie
-use Rattle.checking.proofs.main_tree.over.Reads as reads
-use Rattle.checking.proofs.main_tree.over.Lts as lts
-use Rattle.checking.proofs.ends.between.Reads as between-reads
-use Rattle.checking.proofs.ends.joins.Reads as joins-reads
-use Rattle.checking.proofs.ends.none.Reads as none-reads
-use Rattle.checking.proofs.main_tree.auxiliary_stands.Reads as auxiliary-stands-reads
-use Rattle.geometry.proofs.Mark.below_x.Reads as below-x-reads
-use Rattle.table.proofs.slots.load.Reads as load-reads
 
 -- src/main_tree.rt:92:8
 joins-requires : tie.Need-joins-requires

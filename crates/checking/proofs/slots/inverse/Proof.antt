@@ -1,5 +1,5 @@
 -- The loop keeps: left ≤ capacity; inverse♯ of left is that of capacity. What falls: left.
-use Prim.Native.Nat.{ℕ, _<_, _≤_}
+use Prim.Native.Nat.{_<_, _≤_}
 use mathlib.Core.Path.{_≡_}
 use native.Mathlib.Omega.{arith}
 use Rattle.table.proofs.Fuel.{positive, nothing}
@@ -7,9 +7,6 @@ use Rattle.checking.proofs.slots.inverse.Statement.{statement}
 use Rattle.checking.specs.Slots.{inverse♯, inverse♯-zero, inverse♯-suc}
 use borrow.Author.Needs.{needs}
 use Rattle.checking.proofs.slots.inverse.Tie as tie
-use Rattle.checking.proofs.slots.inverse.Reads as reads
-use Rattle.checking.proofs.slots.inverse.Lts as lts
-use Rattle.checking.proofs.slots.placed.Reads as placed-reads
 
 abbrev Inv-loop : tie.InvT-loop
 Inv-loop t capacity left₀ left = (left ≤ capacity) × (inverse♯ left capacity t ≡ inverse♯ capacity capacity t)

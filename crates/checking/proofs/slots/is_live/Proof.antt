@@ -3,9 +3,6 @@ use Rattle.checking.proofs.slots.is_live.Statement.{statement}
 use borrow.Author.Tests.{lt-leb}
 use Rattle.checking.specs.Slots.{liveSlot♯}
 use Rattle.checking.proofs.slots.is_live.Tie as tie
-use Rattle.checking.proofs.slots.is_live.Reads as reads
-use Rattle.checking.proofs.slots.is_live.Lts as lts
-use Rattle.table.proofs.runs.place.Reads as place-reads
 
 -- src/slots.rt:10:5
 place-requires : tie.Need-place-requires

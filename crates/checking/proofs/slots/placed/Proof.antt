@@ -3,10 +3,6 @@ use Rattle.checking.proofs.slots.placed.Statement.{statement}
 use borrow.Author.Tests.{le-leb, lt-leb}
 use Rattle.checking.specs.Slots.{placed♯}
 use Rattle.checking.proofs.slots.placed.Tie as tie
-use Rattle.checking.proofs.slots.placed.Reads as reads
-use Rattle.checking.proofs.slots.placed.Lts as lts
-use Rattle.table.proofs.runs.place.Reads as place-reads
-use Rattle.table.proofs.runs.used.Reads as used-reads
 
 -- src/slots.rt:20:9
 used-requires : tie.Need-used-requires

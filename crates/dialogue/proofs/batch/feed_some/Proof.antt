@@ -10,9 +10,6 @@ use Rattle.dialogue.specs.Dialogue.{dialogue, FedAll, none}
 use Rattle.dialogue.proofs.Feeding.{fed-behind}
 use Rattle.dialogue.proofs.batch.feed_some.Statement.{statement}
 use Rattle.dialogue.proofs.batch.feed_some.Tie as tie
-use Rattle.dialogue.proofs.batch.feed_some.Reads as reads
-use Rattle.dialogue.proofs.batch.feed_some.Lts as lts
-use Rattle.dialogue.proofs.turn.feed.Reads as feed-reads
 
 abbrev Inv-loop : tie.InvT-loop
 Inv-loop table₀ first₀ second₀ line₀ len chunk out₀ longest begun₀ used₀ bytes₀ table first second line out begun used bytes =

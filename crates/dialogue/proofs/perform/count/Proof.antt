@@ -8,11 +8,6 @@ use Rattle.dialogue.proofs.Answering.{answered-first}
 use borrow.Author.Needs.{needs}
 use Rattle.dialogue.proofs.perform.count.Statement.{statement}
 use Rattle.dialogue.proofs.perform.count.Tie as tie
-use Rattle.dialogue.proofs.perform.count.Reads as reads
-use Rattle.dialogue.proofs.perform.count.Lts as lts
-use Rattle.lines.proofs.response.put_first.Reads as put-first-reads
-use Rattle.register.proofs.answers.Count.figures.Reads as figures-reads
-use Rattle.register.proofs.count.count.Reads as count-reads
 
 count-requires : tie.Need-count-requires
 count-requires c κs = search needs

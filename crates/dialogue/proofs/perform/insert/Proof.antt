@@ -8,11 +8,6 @@ use Rattle.dialogue.proofs.Answering.{answered-first}
 use borrow.Author.Needs.{needs}
 use Rattle.dialogue.proofs.perform.insert.Statement.{statement}
 use Rattle.dialogue.proofs.perform.insert.Tie as tie
-use Rattle.dialogue.proofs.perform.insert.Reads as reads
-use Rattle.dialogue.proofs.perform.insert.Lts as lts
-use Rattle.lines.proofs.response.put_first.Reads as put-first-reads
-use Rattle.register.proofs.answers.Update.figures.Reads as figures-reads
-use Rattle.register.proofs.insert.insert.Reads as insert-reads
 
 insert-requires : tie.Need-insert-requires
 insert-requires c κs = search needs

@@ -1,6 +1,5 @@
 -- `list` meets its contract. Assumes nothing.
 use Prim.Native.Nat.{ℕ}
-use mathlib.Core.Path.{refl}
 use native.Mathlib.Omega.{arith}
 use borrow.Author.Tests.{eq-eqb, ne-eqb}
 use Rattle.geometry.specs.Values.{boxValue}
@@ -11,12 +10,6 @@ use Rattle.dialogue.proofs.Answering.{answered-first, list-room, answer
 use borrow.Author.Needs.{needs}
 use Rattle.dialogue.proofs.perform.list.Statement.{statement}
 use Rattle.dialogue.proofs.perform.list.Tie as tie
-use Rattle.dialogue.proofs.perform.list.Reads as reads
-use Rattle.dialogue.proofs.perform.list.Lts as lts
-use Rattle.lines.proofs.response.put_first.Reads as put-first-reads
-use Rattle.lines.proofs.response.put_marks.Reads as put-marks-reads
-use Rattle.register.proofs.answers.Listing.figures.Reads as figures-reads
-use Rattle.register.proofs.list.list.Reads as list-reads
 
 abbrev given : ℕ → ℕ → ℕ → ℕ → ListFigures
 given n m v w = record { number = n; k = m; visits = v; which = w }

@@ -7,13 +7,6 @@ use Rattle.dialogue.proofs.Answering.{does-command, does-none}
 use borrow.Author.Needs.{needs}
 use Rattle.dialogue.proofs.perform.perform.Statement.{statement}
 use Rattle.dialogue.proofs.perform.perform.Tie as tie
-use Rattle.dialogue.proofs.perform.perform.Reads as reads
-use Rattle.dialogue.proofs.perform.perform.Lts as lts
-use Rattle.lines.proofs.response.put_refusal.Reads as put-refusal-reads
-use Rattle.dialogue.proofs.perform.count.Reads as count-reads
-use Rattle.dialogue.proofs.perform.insert.Reads as insert-reads
-use Rattle.dialogue.proofs.perform.list.Reads as list-reads
-use Rattle.dialogue.proofs.perform.strike.Reads as strike-reads
 
 enum-known-line : tie.Need-enum-known-line
 enum-known-line c = search needs

@@ -8,11 +8,6 @@ use Rattle.dialogue.proofs.Answering.{answered-first}
 use borrow.Author.Needs.{needs}
 use Rattle.dialogue.proofs.perform.strike.Statement.{statement}
 use Rattle.dialogue.proofs.perform.strike.Tie as tie
-use Rattle.dialogue.proofs.perform.strike.Reads as reads
-use Rattle.dialogue.proofs.perform.strike.Lts as lts
-use Rattle.lines.proofs.response.put_first.Reads as put-first-reads
-use Rattle.register.proofs.answers.Update.figures.Reads as figures-reads
-use Rattle.register.proofs.strike.strike.Reads as strike-reads
 
 strike-requires : tie.Need-strike-requires
 strike-requires c κs = search needs

@@ -5,10 +5,6 @@ use Rattle.dialogue.specs.Dialogue.{ends, goesOn}
 use borrow.Author.Needs.{needs}
 use Rattle.dialogue.proofs.turn.feed.Statement.{statement}
 use Rattle.dialogue.proofs.turn.feed.Tie as tie
-use Rattle.dialogue.proofs.turn.feed.Reads as reads
-use Rattle.dialogue.proofs.turn.feed.Lts as lts
-use Rattle.lines.proofs.input.take.Reads as take-reads
-use Rattle.dialogue.proofs.turn.respond.Reads as respond-reads
 
 respond-requires : tie.Need-respond-requires
 respond-requires c κs = search needs

@@ -5,9 +5,6 @@ use Rattle.dialogue.specs.Dialogue.{rest, noRest}
 use borrow.Author.Needs.{needs}
 use Rattle.dialogue.proofs.turn.finish.Statement.{statement}
 use Rattle.dialogue.proofs.turn.finish.Tie as tie
-use Rattle.dialogue.proofs.turn.finish.Reads as reads
-use Rattle.dialogue.proofs.turn.finish.Lts as lts
-use Rattle.dialogue.proofs.turn.respond.Reads as respond-reads
 
 returns : tie.Need-returns
 returns c = (omega arith, noRest (c .if1 .taken) refl refl)

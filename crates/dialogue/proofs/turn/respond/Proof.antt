@@ -3,10 +3,6 @@ use Rattle.lines.specs.Values.{lineOf}
 use borrow.Author.Needs.{needs}
 use Rattle.dialogue.proofs.turn.respond.Statement.{statement}
 use Rattle.dialogue.proofs.turn.respond.Tie as tie
-use Rattle.dialogue.proofs.turn.respond.Reads as reads
-use Rattle.dialogue.proofs.turn.respond.Lts as lts
-use Rattle.lines.proofs.input.command.Reads as command-reads
-use Rattle.dialogue.proofs.perform.perform.Reads as perform-reads
 
 command-requires : tie.Need-command-requires
 command-requires c κs = search needs

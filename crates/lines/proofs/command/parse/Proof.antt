@@ -4,11 +4,6 @@ use borrow.Author.Needs.{needs}
 use Rattle.lines.specs.Reading.{read♯}
 use Rattle.lines.proofs.command.parse.Statement.{statement}
 use Rattle.lines.proofs.command.parse.Tie as tie
-use Rattle.lines.proofs.command.parse.Reads as reads
-use Rattle.lines.proofs.command.parse.Lts as lts
-use Rattle.lines.proofs.command.read_box.Reads as read-box-reads
-use Rattle.lines.proofs.command.read_mark.Reads as read-mark-reads
-use Rattle.lines.proofs.number.byte.Reads as byte-reads
 
 byte-requires : tie.Need-byte-requires
 byte-requires c κs = search needs

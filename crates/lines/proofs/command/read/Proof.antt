@@ -3,9 +3,6 @@ use borrow.Author.Needs.{needs}
 use Rattle.lines.proofs.Reading.{reads-line}
 use Rattle.lines.proofs.command.read.Statement.{statement}
 use Rattle.lines.proofs.command.read.Tie as tie
-use Rattle.lines.proofs.command.read.Reads as reads
-use Rattle.lines.proofs.command.read.Lts as lts
-use Rattle.lines.proofs.command.parse.Reads as parse-reads
 
 parse-requires : tie.Need-parse-requires
 parse-requires c κs = search needs

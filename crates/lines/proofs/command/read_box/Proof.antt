@@ -4,9 +4,6 @@ use Rattle.lines.specs.Reading.{readBox♯}
 use Rattle.lines.proofs.Places.{atEnd-more, atEnd-end}
 use Rattle.lines.proofs.command.read_box.Statement.{statement}
 use Rattle.lines.proofs.command.read_box.Tie as tie
-use Rattle.lines.proofs.command.read_box.Reads as reads
-use Rattle.lines.proofs.command.read_box.Lts as lts
-use Rattle.lines.proofs.number.read_field.Reads as read-field-reads
 
 read-field-requires : tie.Need-read-field-requires
 read-field-requires c κs = search needs

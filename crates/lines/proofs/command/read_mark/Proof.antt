@@ -4,9 +4,6 @@ use Rattle.lines.specs.Reading.{readMark♯}
 use Rattle.lines.proofs.Places.{atEnd-more, atEnd-end}
 use Rattle.lines.proofs.command.read_mark.Statement.{statement}
 use Rattle.lines.proofs.command.read_mark.Tie as tie
-use Rattle.lines.proofs.command.read_mark.Reads as reads
-use Rattle.lines.proofs.command.read_mark.Lts as lts
-use Rattle.lines.proofs.number.read_field.Reads as read-field-reads
 
 read-field-requires : tie.Need-read-field-requires
 read-field-requires c κs = search needs

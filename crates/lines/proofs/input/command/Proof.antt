@@ -6,9 +6,6 @@ use Rattle.lines.specs.Values.{lineOf}
 use Rattle.lines.proofs.Gathering.{gathered-long, gathered-room, gathered-short}
 use Rattle.lines.proofs.input.command.Statement.{statement}
 use Rattle.lines.proofs.input.command.Tie as tie
-use Rattle.lines.proofs.input.command.Reads as reads
-use Rattle.lines.proofs.input.command.Lts as lts
-use Rattle.lines.proofs.command.read.Reads as read-reads
 
 returns : tie.Need-returns
 returns c l g = let a = c .before .before .args in gathered-long (a .line .now) (a .len) l g (c .if1 .taken)

@@ -4,9 +4,6 @@ use borrow.Author.Tests.{le-leb, lt-leb}
 use Rattle.lines.specs.Input.{gather}
 use Rattle.lines.proofs.input.take.Statement.{statement}
 use Rattle.lines.proofs.input.take.Tie as tie
-use Rattle.lines.proofs.input.take.Reads as reads
-use Rattle.lines.proofs.input.take.Lts as lts
-use Rattle.lines.proofs.number.put_byte.Reads as put-byte-reads
 
 add-result : tie.Need-add-result
 add-result c = search needs

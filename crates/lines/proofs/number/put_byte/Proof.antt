@@ -6,8 +6,6 @@ use lib.ListN.{length, length-set}
 use lib.Seq.{set-out}
 use Rattle.lines.proofs.number.put_byte.Statement.{statement}
 use Rattle.lines.proofs.number.put_byte.Tie as tie
-use Rattle.lines.proofs.number.put_byte.Reads as reads
-use Rattle.lines.proofs.number.put_byte.Lts as lts
 
 slice-write-out : tie.Need-slice-write-out
 slice-write-out c = search needs

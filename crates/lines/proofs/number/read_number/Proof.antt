@@ -1,15 +1,11 @@
 -- `read_number` meets its contract. Assumes nothing.
-use Prim.Native.Nat.{ℕ, _<_}
+use Prim.Native.Nat.{_<_}
 use mathlib.Core.Path.{sym, _∙_}
 use native.Mathlib.Omega.{arith}
 use borrow.Author.Needs.{needs}
 use Rattle.lines.proofs.Places.{byte-inside, readNumber-low, readNumber-high, readNumber-zero, readNumber-digit}
 use Rattle.lines.proofs.number.read_number.Statement.{statement}
 use Rattle.lines.proofs.number.read_number.Tie as tie
-use Rattle.lines.proofs.number.read_number.Reads as reads
-use Rattle.lines.proofs.number.read_number.Lts as lts
-use Rattle.lines.proofs.number.byte.Reads as byte-reads
-use Rattle.lines.proofs.number.read_on.Reads as read-on-reads
 
 byte-requires : tie.Need-byte-requires
 byte-requires c κs = search needs

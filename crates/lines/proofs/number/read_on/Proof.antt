@@ -1,15 +1,13 @@
 -- `read_on` meets its contract. The loop's invariant: what is left to read goes on from the value read so far, which fits a word. Assumes nothing.
-use Prim.Native.Nat.{ℕ, _-_, _<_}
+use Prim.Native.Nat.{_-_, _<_}
 use mathlib.Core.Path.{_≡_, refl, sym, _∙_}
 use native.Mathlib.Omega.{arith}
-use lib.ListN.{length, drop, getD}
+use lib.ListN.{length, drop}
 use borrow.Author.Needs.{needs}
 use Rattle.lines.specs.Reading.{readOn♯}
 use Rattle.lines.proofs.Places.{readOn-low, readOn-high, readOn-large, readOn-digit, readOn-end}
 use Rattle.lines.proofs.number.read_on.Statement.{statement}
 use Rattle.lines.proofs.number.read_on.Tie as tie
-use Rattle.lines.proofs.number.read_on.Reads as reads
-use Rattle.lines.proofs.number.read_on.Lts as lts
 
 abbrev Inv-loop : tie.InvT-loop
 Inv-loop line from v at₀ value₀ at value = (value < 4294967296) × (readOn♯ value (drop at line) ≡ readOn♯ v (drop from line))

@@ -5,10 +5,6 @@ use Rattle.lines.proofs.Writing.{wrote-then}
 use borrow.Author.Needs.{needs}
 use Rattle.lines.proofs.response.put_field.Statement.{statement}
 use Rattle.lines.proofs.response.put_field.Tie as tie
-use Rattle.lines.proofs.response.put_field.Reads as reads
-use Rattle.lines.proofs.response.put_field.Lts as lts
-use Rattle.lines.proofs.number.put_byte.Reads as put-byte-reads
-use Rattle.lines.proofs.number.put_number.Reads as put-number-reads
 
 put-byte-requires : tie.Need-put-byte-requires
 put-byte-requires c κs = search needs

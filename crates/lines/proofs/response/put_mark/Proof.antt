@@ -7,11 +7,6 @@ use Rattle.geometry.specs.Values.{markValue}
 use borrow.Author.Needs.{needs}
 use Rattle.lines.proofs.response.put_mark.Statement.{statement}
 use Rattle.lines.proofs.response.put_mark.Tie as tie
-use Rattle.lines.proofs.response.put_mark.Reads as reads
-use Rattle.lines.proofs.response.put_mark.Lts as lts
-use Rattle.lines.proofs.number.put_byte.Reads as put-byte-reads
-use Rattle.lines.proofs.number.put_number.Reads as put-number-reads
-use Rattle.lines.proofs.response.put_field.Reads as put-field-reads
 
 put-number-requires : tie.Need-put-number-requires
 put-number-requires c κs =

@@ -1,6 +1,6 @@
 -- `put_marks` meets its contract. The loop's invariant: the lines of the first i marks are written, at most 33 bytes each. Assumes nothing.
-use Prim.Native.Nat.{ℕ, _+_, _-_, _*_, _≤_}
-use mathlib.Core.Path.{_≡_, refl, sym, _∙_}
+use Prim.Native.Nat.{_+_, _-_, _*_, _≤_}
+use mathlib.Core.Path.{_≡_, refl, _∙_}
 use native.Mathlib.Omega.{arith}
 use lib.ListN.{length}
 use borrow.Author.Needs.{needs}
@@ -12,10 +12,6 @@ use Rattle.lines.proofs.Responses.{markLines-more, mark-short}
 use Rattle.lines.proofs.Writing.{wrote-nothing, wrote-then}
 use Rattle.lines.proofs.response.put_marks.Statement.{statement}
 use Rattle.lines.proofs.response.put_marks.Tie as tie
-use Rattle.lines.proofs.response.put_marks.Reads as reads
-use Rattle.lines.proofs.response.put_marks.Lts as lts
-use Rattle.lines.proofs.response.put_mark.Reads as put-mark-reads
-use Rattle.table.proofs.slots.listed.Reads as listed-reads
 
 abbrev Inv-loop : tie.InvT-loop
 Inv-loop out₀ at list k next₀ i₀ out next i =

@@ -6,10 +6,6 @@ use Rattle.lines.proofs.Responses.{refusal-parts, refusal-short}
 use borrow.Author.Needs.{needs}
 use Rattle.lines.proofs.response.put_refusal.Statement.{statement}
 use Rattle.lines.proofs.response.put_refusal.Tie as tie
-use Rattle.lines.proofs.response.put_refusal.Reads as reads
-use Rattle.lines.proofs.response.put_refusal.Lts as lts
-use Rattle.lines.proofs.number.put_byte.Reads as put-byte-reads
-use Rattle.lines.proofs.response.put_field.Reads as put-field-reads
 
 put-byte-requires : tie.Need-put-byte-requires
 put-byte-requires c κs = search needs

@@ -2,8 +2,6 @@ use borrow.Author.Needs.{needs}
 use Rattle.nodes.proofs.arm.inner_number.Statement.{statement}
 use Rattle.nodes.specs.Arms.{innerNumber}
 use Rattle.nodes.proofs.arm.inner_number.Tie as tie
-use Rattle.nodes.proofs.arm.inner_number.Reads as reads
-use Rattle.nodes.proofs.arm.inner_number.Lts as lts
 
 -- src/arm.rt:36:5
 mul-result : tie.Need-mul-result

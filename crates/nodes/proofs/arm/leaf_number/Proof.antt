@@ -2,8 +2,6 @@ use borrow.Author.Needs.{needs}
 use Rattle.nodes.proofs.arm.leaf_number.Statement.{statement}
 use Rattle.nodes.specs.Arms.{leafNumber}
 use Rattle.nodes.proofs.arm.leaf_number.Tie as tie
-use Rattle.nodes.proofs.arm.leaf_number.Reads as reads
-use Rattle.nodes.proofs.arm.leaf_number.Lts as lts
 
 -- src/arm.rt:30:5
 mul-result : tie.Need-mul-result

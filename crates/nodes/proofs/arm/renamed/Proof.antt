@@ -3,9 +3,6 @@ use Rattle.nodes.proofs.arm.renamed.Statement.{statement}
 use borrow.Author.Tests.{eq-eqb, ne-eqb}
 use Rattle.nodes.specs.Arms.{renamed}
 use Rattle.nodes.proofs.arm.renamed.Tie as tie
-use Rattle.nodes.proofs.arm.renamed.Reads as reads
-use Rattle.nodes.proofs.arm.renamed.Lts as lts
-use Rattle.table.proofs.runs.as_slot.Reads as as-slot-reads
 
 -- src/arm.rt:48:9
 as-slot-requires : tie.Need-as-slot-requires

@@ -8,9 +8,6 @@ use Rattle.model.proofs.Logic.{clash}
 use Rattle.nodes.specs.Collect.{gathered, gather♯}
 use Rattle.nodes.proofs.collect.gather.Statement.{statement}
 use Rattle.nodes.proofs.collect.gather.Tie as tie
-use Rattle.nodes.proofs.collect.gather.Reads as reads
-use Rattle.nodes.proofs.collect.gather.Lts as lts
-use Rattle.nodes.proofs.collect.collect.Reads as collect-reads
 
 -- src/collect.rt:115:9
 returns : tie.Need-returns

@@ -3,9 +3,6 @@ use Rattle.nodes.proofs.collect.take.Statement.{statement}
 use Rattle.nodes.specs.Collect.{collectLeaf}
 use borrow.Author.Tests.{eq-eqb, le-leb, lt-leb, ne-eqb}
 use Rattle.nodes.proofs.collect.take.Tie as tie
-use Rattle.nodes.proofs.collect.take.Reads as reads
-use Rattle.nodes.proofs.collect.take.Lts as lts
-use Rattle.table.proofs.runs.store_run.Reads as store-run-reads
 
 -- src/collect.rt:29:9
 returns : tie.Need-returns

@@ -2,8 +2,6 @@ use borrow.Author.Needs.{needs}
 use Rattle.nodes.proofs.weights.balanced.Statement.{statement}
 use borrow.Author.Tests.{le-leb, lt-leb}
 use Rattle.nodes.proofs.weights.balanced.Tie as tie
-use Rattle.nodes.proofs.weights.balanced.Reads as reads
-use Rattle.nodes.proofs.weights.balanced.Lts as lts
 
 -- src/weights.rt:33:13
 add-w : tie.Need-add-w

@@ -2,8 +2,6 @@ use borrow.Author.Needs.{needs}
 use Rattle.nodes.proofs.weights.disagree.Statement.{statement}
 use borrow.Author.Tests.{eq-eqb, ne-eqb}
 use Rattle.nodes.proofs.weights.disagree.Tie as tie
-use Rattle.nodes.proofs.weights.disagree.Reads as reads
-use Rattle.nodes.proofs.weights.disagree.Lts as lts
 
 -- src/weights.rt:26:8
 add-if1 : tie.Need-add-if1

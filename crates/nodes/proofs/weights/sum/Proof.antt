@@ -2,8 +2,6 @@ use borrow.Author.Needs.{needs}
 use Rattle.nodes.proofs.weights.sum.Statement.{statement}
 use Rattle.nodes.specs.Weights.{sum}
 use Rattle.nodes.proofs.weights.sum.Tie as tie
-use Rattle.nodes.proofs.weights.sum.Reads as reads
-use Rattle.nodes.proofs.weights.sum.Lts as lts
 
 -- src/weights.rt:12:7
 add-result : tie.Need-add-result

@@ -3,10 +3,6 @@ use Rattle.nodes.proofs.weights.unbalances.Statement.{statement}
 use Rattle.nodes.specs.Weights.{balanced, unbalances}
 use Rattle.nodes.specs.Weights.{sum}
 use Rattle.nodes.proofs.weights.unbalances.Tie as tie
-use Rattle.nodes.proofs.weights.unbalances.Reads as reads
-use Rattle.nodes.proofs.weights.unbalances.Lts as lts
-use Rattle.nodes.proofs.weights.balanced.Reads as balanced-reads
-use Rattle.nodes.proofs.weights.sum.Reads as sum-reads
 
 -- src/insert.rt:27:39
 sum-requires : tie.Need-sum-requires

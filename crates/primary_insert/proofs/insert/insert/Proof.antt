@@ -3,13 +3,6 @@ use Rattle.primary_insert.proofs.insert.insert.Statement.{statement}
 use borrow.Author.Tests.{eq-eqb, ne-eqb}
 use Rattle.primary_insert.specs.Insert.{insertRoot, mainInsert♯}
 use Rattle.primary_insert.proofs.insert.insert.Tie as tie
-use Rattle.primary_insert.proofs.insert.insert.Reads as reads
-use Rattle.primary_insert.proofs.insert.insert.Lts as lts
-use Rattle.nodes.proofs.primary.PrimaryArm.leaf.Reads as leaf-reads
-use Rattle.nodes.proofs.primary.PrimaryArm.load.Reads as load-reads
-use Rattle.nodes.proofs.primary.PrimaryArm.store.Reads as store-reads
-use Rattle.primary_insert.proofs.insert.insert_beneath.Reads as insert-beneath-reads
-use Rattle.twofold_layout.proofs.levels.top.Reads as top-reads
 
 -- src/insert.rt:123:9
 load-requires : tie.Need-load-requires

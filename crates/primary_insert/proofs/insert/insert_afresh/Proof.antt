@@ -3,12 +3,6 @@ use Rattle.primary_insert.proofs.insert.insert_afresh.Statement.{statem
 use Rattle.primary_insert.specs.Insert.{afreshOnce, mainAfresh♯, putRebuilt, rebuiltAt}
 use borrow.Author.Tests.{eq-eqb, ne-eqb}
 use Rattle.primary_insert.proofs.insert.insert_afresh.Tie as tie
-use Rattle.primary_insert.proofs.insert.insert_afresh.Reads as reads
-use Rattle.primary_insert.proofs.insert.insert_afresh.Lts as lts
-use Rattle.nodes.proofs.primary.PrimaryArm.load.Reads as load-reads
-use Rattle.nodes.proofs.primary.PrimaryArm.store.Reads as store-reads
-use Rattle.primary_build.proofs.build.rebuild.Reads as rebuild-reads
-use Rattle.primary_insert.proofs.main_tree.put.Reads as put-reads
 
 -- src/insert.rt:47:9
 put-requires : tie.Need-put-requires

@@ -4,14 +4,6 @@ use Rattle.primary_insert.proofs.insert.insert_at_leaf.Statement.{state
 use Rattle.primary_insert.specs.Insert.{mainLeaf♯, pairAuxiliary}
 use Rattle.primary_insert.proofs.Steps.{mark-room, auxiliary-room}
 use Rattle.primary_insert.proofs.insert.insert_at_leaf.Tie as tie
-use Rattle.primary_insert.proofs.insert.insert_at_leaf.Reads as reads
-use Rattle.primary_insert.proofs.insert.insert_at_leaf.Lts as lts
-use Rattle.primary_insert.proofs.main_tree.split.Reads as split-reads
-use Rattle.table.proofs.slots.load.Reads as mark-load-reads
-use Rattle.nodes.proofs.primary.PrimaryRecord.store_auxiliary.Reads as store-auxiliary-reads
-use Rattle.secondary_update.proofs.insert.insert.Reads as insert-reads
-use Rattle.nodes.proofs.primary.Primary.slot.Reads as slot-reads
-use Rattle.nodes.proofs.secondary.SecondaryArm.leaf.Reads as leaf-reads
 
 split-requires : tie.Need-split-requires
 split-requires c κs =

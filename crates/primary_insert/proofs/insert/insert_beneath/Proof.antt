@@ -11,23 +11,6 @@ use borrow.Author.Needs.{needs}
 use Rattle.table.proofs.Fuel.{positive, nothing}
 use Rattle.primary_insert.proofs.Steps.{child-there}
 use Rattle.primary_insert.proofs.insert.insert_beneath.Tie as tie
-use Rattle.primary_insert.proofs.insert.insert_beneath.Reads as reads
-use Rattle.primary_insert.proofs.insert.insert_beneath.Lts as lts
-use Rattle.geometry.proofs.Mark.below_x.Reads as below-x-reads
-use Rattle.primary_insert.proofs.insert.insert_afresh.Reads as insert-afresh-reads
-use Rattle.primary_insert.proofs.insert.insert_at_leaf.Reads as insert-at-leaf-reads
-use Rattle.nodes.proofs.primary.PrimaryRecord.child.Reads as child-reads
-use Rattle.secondary_update.proofs.insert.insert.Reads as insert-reads
-use Rattle.nodes.proofs.weights.unbalances.Reads as unbalances-reads
-use Rattle.nodes.proofs.primary.Primary.is_leaf.Reads as is-leaf-reads
-use Rattle.nodes.proofs.primary.Primary.slot.Reads as slot-reads
-use Rattle.nodes.proofs.primary.PrimaryArm.load.Reads as arm-load-reads
-use Rattle.nodes.proofs.primary.PrimaryArm.grown.Reads as grown-reads
-use Rattle.nodes.proofs.primary.PrimaryArm.store.Reads as arm-store-reads
-use Rattle.nodes.proofs.primary.PrimaryRecord.load.Reads as load-reads
-use Rattle.table.proofs.slots.load.Reads as mark-load-reads
-use Rattle.nodes.proofs.weights.disagree.Reads as disagree-reads
-use Rattle.twofold_layout.proofs.levels.deeper.Reads as deeper-reads
 
 abbrev Inv-loop : tie.InvT-loop
 Inv-loop t₀ level capacity start m s fuel base₀ at₀ left₀ t base at left =

@@ -15,19 +15,6 @@ use borrow.Author.Tests.{le-leb, lt-leb}
 use Rattle.table.proofs.Fuel.{positive, nothing}
 use Rattle.primary_insert.proofs.Steps.{child-there}
 use Rattle.primary_insert.proofs.main_tree.put.Tie as tie
-use Rattle.primary_insert.proofs.main_tree.put.Reads as reads
-use Rattle.primary_insert.proofs.main_tree.put.Lts as lts
-use Rattle.geometry.proofs.Mark.below_x.Reads as below-x-reads
-use Rattle.nodes.proofs.primary.PrimaryRecord.child.Reads as child-reads
-use Rattle.primary_insert.proofs.main_tree.split.Reads as split-reads
-use Rattle.nodes.proofs.primary.Primary.is_leaf.Reads as is-leaf-reads
-use Rattle.nodes.proofs.primary.Primary.slot.Reads as slot-reads
-use Rattle.nodes.proofs.primary.PrimaryArm.load.Reads as arm-load-reads
-use Rattle.nodes.proofs.primary.PrimaryArm.grown.Reads as grown-reads
-use Rattle.nodes.proofs.primary.PrimaryArm.store.Reads as arm-store-reads
-use Rattle.nodes.proofs.primary.PrimaryRecord.load.Reads as load-reads
-use Rattle.table.proofs.slots.load.Reads as mark-load-reads
-use Rattle.nodes.proofs.weights.disagree.Reads as disagree-reads
 
 abbrev Inv-loop : tie.InvT-loop
 Inv-loop t₀ capacity start m s at₀ left₀ t at left =

@@ -4,15 +4,6 @@ use Rattle.primary_insert.proofs.main_tree.split.Statement.{statement}
 use Rattle.secondary_update.specs.Insert.{nodeAt, split♯}
 use Rattle.primary_insert.specs.Insert.{splitName}
 use Rattle.primary_insert.proofs.main_tree.split.Tie as tie
-use Rattle.primary_insert.proofs.main_tree.split.Reads as reads
-use Rattle.primary_insert.proofs.main_tree.split.Lts as lts
-use Rattle.geometry.proofs.Mark.below_x.Reads as below-x-reads
-use Rattle.nodes.proofs.primary.Primary.slot.Reads as slot-reads
-use Rattle.nodes.proofs.primary.PrimaryArm.leaf.Reads as leaf-reads
-use Rattle.nodes.proofs.primary.PrimaryArm.over.Reads as over-reads
-use Rattle.nodes.proofs.primary.PrimaryArm.store.Reads as arm-store-reads
-use Rattle.nodes.proofs.primary.PrimaryRecord.store.Reads as record-store-reads
-use Rattle.table.proofs.slots.load.Reads as mark-load-reads
 
 leaf-requires : tie.Need-leaf-requires
 leaf-requires c κs = search needs

@@ -1,27 +1,60 @@
 use borrow.Author.Needs.{needs}
 use Rattle.primary_search.proofs.count.hand_over.Statement.{statement}
+use Rattle.primary_search.specs.Count.{handOver♯}
+use borrow.Author.Tests.{le-ltb, lt-ltb}
 use Rattle.primary_search.proofs.count.hand_over.Tie as tie
-use Rattle.primary_search.proofs.count.hand_over.Reads as reads
-use Rattle.primary_search.proofs.count.hand_over.Lts as lts
-use Rattle.nodes.proofs.primary.PrimaryRecord.auxiliary.Reads as auxiliary-reads
-use Rattle.secondary_search.proofs.count.count.Reads as count-reads
-use Rattle.table.proofs.tally.visit.Reads as visit-reads
 
--- src/count.rt:33:9
-auxiliary-requires : tie.Need-auxiliary-requires
-auxiliary-requires c κs = search needs
+-- src/count.rt:39:36
+mul-if1 : tie.Need-mul-if1
+mul-if1 c = search needs
 
--- src/count.rt:40:57
+-- src/count.rt:39:18
+add-if1 : tie.Need-add-if1
+add-if1 c = search needs
+
+-- src/count.rt:40:9
+lost-requires : tie.Need-lost-requires
+lost-requires c κs = search needs
+
+-- src/count.rt:40:9
+returns : tie.Need-returns
+unfolding handOver♯
+returns c = rw (lt-ltb _ _ (c .before .if1 .taken), ← c .lost .ensures)
+
+-- src/count.rt:42:9
+load-auxiliary-requires : tie.Need-load-auxiliary-requires
+load-auxiliary-requires c κs = search needs
+
+-- src/count.rt:49:67
 visit-requires : tie.Need-visit-requires
 visit-requires c κs = search needs
 
--- src/count.rt:40:5
+-- src/count.rt:49:5
 count-requires : tie.Need-count-requires
 count-requires c κs = search needs
 
--- src/count.rt:30:1
-returns : tie.Need-returns
-returns c = rw (← c .before .before .auxiliary .ensures, ← c .before .visit .ensures, ← c .count .ensures)
+-- src/count.rt:35:1
+returns-2 : tie.Need-returns-2
+unfolding handOver♯
+returns-2 c =
+    let at-load-auxiliary = c .before .before in
+    let at-if1 = at-load-auxiliary .before in
+    rw (
+      le-ltb _ _ (at-if1 .if1 .left),
+      ← at-load-auxiliary .load-auxiliary .ensures,
+      ← c .before .visit .ensures,
+      ← c .count .ensures,
+    )
 
 pub hand-over-spec : {M : Type 1} → statement M
-hand-over-spec = tie.close (tie.spec auxiliary-requires visit-requires count-requires returns)
+hand-over-spec =
+    tie.close
+    (tie.spec
+    mul-if1
+    add-if1
+    lost-requires
+    returns
+    load-auxiliary-requires
+    visit-requires
+    count-requires
+    returns-2)

@@ -1,44 +1,57 @@
-use mathlib.Core.Path.{_∙_}
-use Rattle.secondary_search.proofs.Counting.{count-by-y}
-use Rattle.primary_search.specs.Count.{handed♯}
 use borrow.Author.Needs.{needs}
+use borrow.Author.Tests.{le-leb, lt-leb}
+use Rattle.primary_search.specs.Count.{handed♯}
+use Rattle.primary_search.proofs.Counting.{hand-over-by-y}
 use Rattle.primary_search.proofs.count.handed.Statement.{statement}
 use Rattle.primary_search.proofs.count.handed.Tie as tie
-use Rattle.primary_search.proofs.count.handed.Reads as reads
-use Rattle.primary_search.proofs.count.handed.Lts as lts
-use Rattle.nodes.proofs.primary.Primary.is_leaf.Reads as is-leaf-reads
-use Rattle.nodes.proofs.primary.Primary.slot.Reads as slot-reads
-use Rattle.primary_search.proofs.count.hand_over.Reads as hand-over-reads
-use Rattle.primary_search.proofs.count.leaf.Reads as leaf-reads
 
--- src/count.rt:47:9
+-- src/count.rt:58:13
 slot-requires : tie.Need-slot-requires
 slot-requires c κs = search needs
 
--- src/count.rt:48:8
+-- src/count.rt:60:9
+returns : tie.Need-returns
+unfolding handed♯
+returns c = rw (← c .before .slot .ensures, le-leb _ _ (c .if1 .taken))
+
+-- src/count.rt:63:8
 is-leaf-requires : tie.Need-is-leaf-requires
 is-leaf-requires c κs = search needs
 
--- src/count.rt:49:9
+-- src/count.rt:64:21
 leaf-requires : tie.Need-leaf-requires
 leaf-requires c κs = search needs
 
--- src/count.rt:49:9
-returns : tie.Need-returns
+-- src/count.rt:65:9
+returns-2 : tie.Need-returns-2
 unfolding handed♯
-returns c = rw (← c .before .before .before .slot .ensures, ← c .before .before .is-leaf .ensures, c .before .if1 .taken, ← c .leaf .ensures)
+returns-2 c =
+    let at-is-leaf = c .before .before in
+    let at-if1 = at-is-leaf .before in
+    let at-slot = at-if1 .before in
+    rw (
+      ← at-slot .slot .ensures,
+      lt-leb _ _ (at-if1 .if1 .left),
+      ← at-is-leaf .is-leaf .ensures,
+      c .before .if2 .taken,
+      ← c .leaf .ensures,
+    )
 
--- src/count.rt:51:5
+-- src/count.rt:67:17
 hand-over-requires : tie.Need-hand-over-requires
 hand-over-requires c κs = search needs
 
--- src/count.rt:44:1
-returns-2 : tie.Need-returns-2
+-- src/count.rt:54:1
+returns-3 : tie.Need-returns-3
 unfolding handed♯
-returns-2 c = rw (← c .before .before .before .slot .ensures, ← c .before .before .is-leaf .ensures, c .before .if1 .left)
-    (c .hand-over .ensures ∙ count-by-y _ _ _ _ _)
+returns-3 c =
+    let at-is-leaf = c .before .before in
+    let at-if1 = at-is-leaf .before in
+    let at-slot = at-if1 .before in
+    rw (← at-slot .slot .ensures, lt-leb _ _ (at-if1 .if1 .left), ← at-is-leaf .is-leaf .ensures, c .before .if2 .left)
+    (hand-over-by-y _ _ _ _ _ _ _ (c .hand-over .ensures))
 
 pub handed-spec : {M : Type 1} → statement M
 handed-spec =
     tie.close
-    (tie.spec slot-requires is-leaf-requires leaf-requires returns hand-over-requires returns-2)
+    (tie.spec slot-requires returns is-leaf-requires leaf-requires returns-2 hand-over-requires returns-3)

@@ -1,75 +1,78 @@
-use Rattle.nodes.specs.Count.{lowEnd}
 use borrow.Author.Needs.{needs}
 use Rattle.primary_search.proofs.count.low_end.Statement.{statement}
+use Rattle.nodes.specs.Count.{lowEnd}
 use Rattle.primary_search.proofs.count.low_end.Tie as tie
-use Rattle.primary_search.proofs.count.low_end.Reads as reads
-use Rattle.primary_search.proofs.count.low_end.Lts as lts
-use Rattle.geometry.proofs.Box.before_x.Reads as before-x-reads
-use Rattle.primary_search.proofs.count.from_low.Reads as from-low-reads
-use Rattle.primary_search.proofs.count.handed.Reads as handed-reads
-use Rattle.table.proofs.tally.visit.Reads as visit-reads
 
--- src/count.rt:111:8
+-- src/count.rt:146:8
 before-x-requires : tie.Need-before-x-requires
 before-x-requires c κs = search needs
 
--- src/count.rt:112:9
-visit-requires : tie.Need-visit-requires
-visit-requires c κs = search needs
+-- src/count.rt:147:9
+before-requires : tie.Need-before-requires
+before-requires c κs = search needs
 
--- src/count.rt:112:9
+-- src/count.rt:147:9
 returns : tie.Need-returns
 unfolding lowEnd
-returns c = rw (← c .before .before .before-x .ensures, c .before .if1 .taken, ← c .visit .ensures)
+returns c = rw (← c .before .before .before-x .ensures, c .before .if1 .taken, ← c .before2 .ensures)
 
--- src/count.rt:114:8
+-- src/count.rt:149:8
 before-x-requires-2 : tie.Need-before-x-requires-2
 before-x-requires-2 c κs = search needs
 
--- src/count.rt:115:50
-visit-requires-2 : tie.Need-visit-requires-2
-visit-requires-2 c κs = search needs
+-- src/count.rt:150:55
+visit-requires : tie.Need-visit-requires
+visit-requires c κs = search needs
 
--- src/count.rt:115:9
+-- src/count.rt:150:9
 from-low-requires : tie.Need-from-low-requires
 from-low-requires c κs = search needs
 
--- src/count.rt:115:9
+-- src/count.rt:150:9
 returns-2 : tie.Need-returns-2
 unfolding lowEnd
-returns-2 c = rw (
-  ← c .before .before .before .before .before .before-x .ensures,
-  c .before .before .before .before .if1 .left,
-  ← c .before .before .before .before-x2 .ensures,
-  c .before .before .if2 .taken,
-  ← c .before .visit2 .ensures,
-  ← c .from-low .ensures,
-)
+returns-2 c =
+    let at-if2 = c .before .before in
+    let at-before-x2 = at-if2 .before in
+    let at-if1 = at-before-x2 .before in
+    let at-before-x = at-if1 .before in
+    rw (
+      ← at-before-x .before-x .ensures,
+      at-if1 .if1 .left,
+      ← at-before-x2 .before-x2 .ensures,
+      at-if2 .if2 .taken,
+      ← c .before .visit .ensures,
+      ← c .from-low .ensures,
+    )
 
--- src/count.rt:117:5
+-- src/count.rt:152:5
 handed-requires : tie.Need-handed-requires
 handed-requires c κs = search needs
 
--- src/count.rt:107:1
+-- src/count.rt:142:1
 returns-3 : tie.Need-returns-3
 unfolding lowEnd
-returns-3 c = rw (
-  ← c .before .before .before .before .before-x .ensures,
-  c .before .before .before .if1 .left,
-  ← c .before .before .before-x2 .ensures,
-  c .before .if2 .left,
-  ← c .handed .ensures,
-)
+returns-3 c =
+    let at-before-x2 = c .before .before in
+    let at-if1 = at-before-x2 .before in
+    let at-before-x = at-if1 .before in
+    rw (
+      ← at-before-x .before-x .ensures,
+      at-if1 .if1 .left,
+      ← at-before-x2 .before-x2 .ensures,
+      c .before .if2 .left,
+      ← c .handed .ensures,
+    )
 
 pub low-end-spec : {M : Type 1} → statement M
 low-end-spec =
     tie.close
     (tie.spec
     before-x-requires
-    visit-requires
+    before-requires
     returns
     before-x-requires-2
-    visit-requires-2
+    visit-requires
     from-low-requires
     returns-2
     handed-requires

@@ -1,55 +1,46 @@
--- The loop keeps: left ≤ deepest; openFrom of left, base, node, tally is that of deepest, level, node₀, from. What falls: left.
-use Prim.Native.Nat.{ℕ, _<_, _≤_}
+-- The loop keeps: left ≤ deepest; openFrom of left, base, (node .0), (tally .0) is that of deepest, level, (node₀ .0), (tally₀ .0). What falls: left.
+use Rattle.primary_search.proofs.count.opened.Statement.{statement}
+use Prim.Native.Nat.{_≤_}
 use mathlib.Core.Path.{_≡_}
 use native.Mathlib.Omega.{arith}
 use borrow.Author.Needs.{needs}
 use Rattle.model.specs.Sheet.{alongX}
 use Rattle.geometry.specs.Values.{boxValue}
 use Rattle.table.specs.Limits.{deepest}
-use Rattle.nodes.proofs.Missing.{present}
 use Rattle.nodes.specs.Count.{sideAlong, openRecord, openNode, openFrom, openFrom-zero, openFrom-suc}
 use Rattle.table.proofs.Fuel.{positive, nothing}
 use Rattle.primary_search.specs.Count.{mainKind}
-use Rattle.primary_search.proofs.count.opened.Statement.{statement}
+use borrow.Author.Tests.{le-leb, lt-leb}
 use Rattle.primary_search.proofs.count.opened.Tie as tie
-use Rattle.primary_search.proofs.count.opened.Reads as reads
-use Rattle.primary_search.proofs.count.opened.Lts as lts
-use Rattle.geometry.proofs.Box.before_x.Reads as before-x-reads
-use Rattle.geometry.proofs.Box.past_x.Reads as past-x-reads
-use Rattle.nodes.proofs.primary.Primary.slot.Reads as slot-reads
-use Rattle.nodes.proofs.primary.PrimaryRecord.is_missing.Reads as is-missing-reads
-use Rattle.nodes.proofs.primary.PrimaryRecord.load.Reads as load-reads
-use Rattle.primary_search.proofs.count.high_end.Reads as high-end-reads
-use Rattle.primary_search.proofs.count.low_end.Reads as low-end-reads
-use Rattle.table.proofs.tally.visit.Reads as visit-reads
-use Rattle.twofold_layout.proofs.levels.deeper.Reads as deeper-reads
 
 abbrev Inv-loop : tie.InvT-loop
-Inv-loop t level capacity b from base₀ node₀ tally₀ left₀ base node tally left =
+Inv-loop t level capacity b base₀ node₀ tally₀ left₀ base node tally left =
     (left ≤ deepest) ×
-    (openFrom (mainKind t capacity (boxValue b)) (sideAlong alongX (boxValue b)) t left base (node .0) tally ≡
-    openFrom (mainKind t capacity (boxValue b)) (sideAlong alongX (boxValue b)) t deepest level (node₀ .0) from)
+    (openFrom (mainKind t capacity (boxValue b)) (sideAlong alongX (boxValue b)) capacity t left base (node .0)
+    (tally .0) ≡
+    openFrom (mainKind t capacity (boxValue b)) (sideAlong alongX (boxValue b)) capacity t deepest level (node₀ .0)
+    (tally₀ .0))
 
 abbrev μ-loop : tie.MeasureT-loop
-μ-loop t level capacity b from base₀ node₀ tally₀ left₀ base node tally left = left
+μ-loop t level capacity b base₀ node₀ tally₀ left₀ base node tally left = left
 
--- src/count.rt:162:5
+-- src/count.rt:178:5
 loop-holds : tie.Need-loop-holds Inv-loop μ-loop
 loop-holds c = search needs
 
--- src/count.rt:163:9
+-- src/count.rt:179:9
 sub-left : tie.Need-sub-left Inv-loop μ-loop
 sub-left c = search needs
 
--- src/count.rt:164:13
+-- src/count.rt:180:13
 slot-requires : tie.Need-slot-requires Inv-loop μ-loop
 slot-requires c κs = search needs
 
--- src/count.rt:165:12
-is-missing-requires : tie.Need-is-missing-requires Inv-loop μ-loop
-is-missing-requires c κs = search needs
+-- src/count.rt:182:13
+lost-requires : tie.Need-lost-requires Inv-loop μ-loop
+lost-requires c κs = search needs
 
--- src/count.rt:166:13
+-- src/count.rt:182:13
 returns : tie.Need-returns Inv-loop μ-loop
 unfolding openNode openRecord
 returns c =
@@ -58,37 +49,37 @@ returns c =
     let at-loop = at-loop-test .before in
     rw (
       ← at-loop .loop .inv .1,
-      openFrom-suc _ _ _ _ (positive _ (at-loop-test .loop-test .taken)),
+      openFrom-suc _ _ _ _ _ (positive _ (at-loop-test .loop-test .taken)),
       ← at-slot .slot .ensures,
-      ← c .before .is-missing .ensures,
-      c .if1 .taken,
+      le-leb _ _ (c .before .if1 .taken),
+      ← c .lost .ensures,
     )
 
--- src/count.rt:168:13
+-- src/count.rt:184:13
 load-requires : tie.Need-load-requires Inv-loop μ-loop
-load-requires c κs = present _ _ _ (c .before .is-missing .ensures) (c .if1 .left)
+load-requires c κs = search (needs, c .if1 .left)
 
--- src/count.rt:173:9
+-- src/count.rt:189:9
 deeper-requires : tie.Need-deeper-requires Inv-loop μ-loop
 deeper-requires c κs = search needs
 
--- src/count.rt:174:12
+-- src/count.rt:190:12
 before-x-requires : tie.Need-before-x-requires Inv-loop μ-loop
 before-x-requires c κs = search needs
 
--- src/count.rt:175:34
+-- src/count.rt:191:21
+before-requires : tie.Need-before-requires Inv-loop μ-loop
+before-requires c κs = search needs
+
+-- src/count.rt:191:13
 visit-requires : tie.Need-visit-requires Inv-loop μ-loop
 visit-requires c κs = search needs
 
--- src/count.rt:175:13
-visit-requires-2 : tie.Need-visit-requires-2 Inv-loop μ-loop
-visit-requires-2 c κs = search needs
-
--- src/count.rt:162:5
+-- src/count.rt:178:5
 loop-less : tie.Need-loop-less Inv-loop μ-loop
 loop-less c = search needs
 
--- src/count.rt:162:5
+-- src/count.rt:178:5
 loop-again : tie.Need-loop-again Inv-loop μ-loop
 unfolding openNode openRecord
 loop-again c =
@@ -97,43 +88,41 @@ loop-again c =
     let at-deeper = at-before-x .before in
     let at-load = at-deeper .before .before .before .before .before in
     let at-if1 = at-load .before in
-    let at-is-missing = at-if1 .before in
-    let at-slot = at-is-missing .before in
+    let at-slot = at-if1 .before in
     let at-loop-test = at-slot .before in
     let at-loop = at-loop-test .before in (
       omega (arith, at-loop .loop .inv .0),
       rw (
         ← at-loop .loop .inv .1,
-        openFrom-suc _ _ _ _ (positive _ (at-loop-test .loop-test .taken)),
+        openFrom-suc _ _ _ _ _ (positive _ (at-loop-test .loop-test .taken)),
         ← at-slot .slot .ensures,
-        ← at-is-missing .is-missing .ensures,
-        at-if1 .if1 .left,
+        lt-leb _ _ (at-if1 .if1 .left),
         ← at-load .load .ensures,
         ← at-deeper .deeper .ensures,
         ← at-before-x .before-x .ensures,
         at-if2 .if2 .taken,
-        ← c .before .visit .ensures,
-        ← c .visit2 .ensures,
+        ← c .before .before2 .ensures,
+        ← c .visit .ensures,
       ),
     )
 
--- src/count.rt:178:16
+-- src/count.rt:194:16
 past-x-requires : tie.Need-past-x-requires Inv-loop μ-loop
 past-x-requires c κs = search needs
 
--- src/count.rt:179:38
-visit-requires-3 : tie.Need-visit-requires-3 Inv-loop μ-loop
-visit-requires-3 c κs = search needs
+-- src/count.rt:195:25
+past-requires : tie.Need-past-requires Inv-loop μ-loop
+past-requires c κs = search needs
 
--- src/count.rt:179:17
-visit-requires-4 : tie.Need-visit-requires-4 Inv-loop μ-loop
-visit-requires-4 c κs = search needs
+-- src/count.rt:195:17
+visit-requires-2 : tie.Need-visit-requires-2 Inv-loop μ-loop
+visit-requires-2 c κs = search needs
 
--- src/count.rt:162:5
+-- src/count.rt:178:5
 loop-less-2 : tie.Need-loop-less-2 Inv-loop μ-loop
 loop-less-2 c = search needs
 
--- src/count.rt:162:5
+-- src/count.rt:178:5
 loop-again-2 : tie.Need-loop-again-2 Inv-loop μ-loop
 unfolding openNode openRecord
 loop-again-2 c =
@@ -144,37 +133,35 @@ loop-again-2 c =
     let at-deeper = at-before-x .before in
     let at-load = at-deeper .before .before .before .before .before in
     let at-if1 = at-load .before in
-    let at-is-missing = at-if1 .before in
-    let at-slot = at-is-missing .before in
+    let at-slot = at-if1 .before in
     let at-loop-test = at-slot .before in
     let at-loop = at-loop-test .before in (
       omega (arith, at-loop .loop .inv .0),
       rw (
         ← at-loop .loop .inv .1,
-        openFrom-suc _ _ _ _ (positive _ (at-loop-test .loop-test .taken)),
+        openFrom-suc _ _ _ _ _ (positive _ (at-loop-test .loop-test .taken)),
         ← at-slot .slot .ensures,
-        ← at-is-missing .is-missing .ensures,
-        at-if1 .if1 .left,
+        lt-leb _ _ (at-if1 .if1 .left),
         ← at-load .load .ensures,
         ← at-deeper .deeper .ensures,
         ← at-before-x .before-x .ensures,
         at-if2 .if2 .left,
         ← at-past-x .past-x .ensures,
         at-if3 .if3 .taken,
-        ← c .before .visit3 .ensures,
-        ← c .visit4 .ensures,
+        ← c .before .past .ensures,
+        ← c .visit2 .ensures,
       ),
     )
 
--- src/count.rt:182:21
+-- src/count.rt:198:21
 low-end-requires : tie.Need-low-end-requires Inv-loop μ-loop
 low-end-requires c κs = search needs
 
--- src/count.rt:183:17
+-- src/count.rt:199:17
 high-end-requires : tie.Need-high-end-requires Inv-loop μ-loop
 high-end-requires c κs = search needs
 
--- src/count.rt:183:17
+-- src/count.rt:199:17
 returns-2 : tie.Need-returns-2 Inv-loop μ-loop
 unfolding openNode openRecord
 returns-2 c =
@@ -185,16 +172,14 @@ returns-2 c =
     let at-deeper = at-before-x .before in
     let at-load = at-deeper .before .before .before .before .before in
     let at-if1 = at-load .before in
-    let at-is-missing = at-if1 .before in
-    let at-slot = at-is-missing .before in
+    let at-slot = at-if1 .before in
     let at-loop-test = at-slot .before in
     let at-loop = at-loop-test .before in
     rw (
       ← at-loop .loop .inv .1,
-      openFrom-suc _ _ _ _ (positive _ (at-loop-test .loop-test .taken)),
+      openFrom-suc _ _ _ _ _ (positive _ (at-loop-test .loop-test .taken)),
       ← at-slot .slot .ensures,
-      ← at-is-missing .is-missing .ensures,
-      at-if1 .if1 .left,
+      lt-leb _ _ (at-if1 .if1 .left),
       ← at-load .load .ensures,
       ← at-deeper .deeper .ensures,
       ← at-before-x .before-x .ensures,
@@ -205,10 +190,18 @@ returns-2 c =
       ← c .high-end .ensures,
     )
 
--- src/count.rt:155:1
+-- src/count.rt:203:5
+lost-requires-2 : tie.Need-lost-requires-2 Inv-loop μ-loop
+lost-requires-2 c κs = search needs
+
+-- src/count.rt:170:1
 returns-3 : tie.Need-returns-3 Inv-loop μ-loop
 unfolding openNode openRecord
-returns-3 c = rw (← c .before .loop .inv .1, openFrom-zero _ _ _ _ (nothing _ (c .loop-test .left)))
+returns-3 c = rw (
+  ← c .before .before .loop .inv .1,
+  openFrom-zero _ _ _ _ _ (nothing _ (c .before .loop-test .left)),
+  ← c .lost2 .ensures,
+)
 
 pub opened-spec : {M : Type 1} → statement M
 opened-spec =
@@ -219,21 +212,22 @@ opened-spec =
     loop-holds
     sub-left
     slot-requires
-    is-missing-requires
+    lost-requires
     returns
     load-requires
     deeper-requires
     before-x-requires
+    before-requires
     visit-requires
-    visit-requires-2
     loop-less
     loop-again
     past-x-requires
-    visit-requires-3
-    visit-requires-4
+    past-requires
+    visit-requires-2
     loop-less-2
     loop-again-2
     low-end-requires
     high-end-requires
     returns-2
+    lost-requires-2
     returns-3)

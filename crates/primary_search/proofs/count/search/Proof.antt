@@ -1,114 +1,136 @@
-use mathlib.Core.Path.{_∙_}
-use Rattle.nodes.specs.Count.{countTree}
-use Rattle.secondary_search.proofs.Counting.{count-by-y}
-use Rattle.primary_search.specs.Count.{handed♯, mainSearch♯}
 use borrow.Author.Needs.{needs}
 use Rattle.primary_search.proofs.count.search.Statement.{statement}
+use Rattle.primary_search.specs.Count.{mainSearch♯}
+use Rattle.nodes.specs.Count.{countTree}
 use Rattle.primary_search.proofs.count.search.Tie as tie
-use Rattle.primary_search.proofs.count.search.Reads as reads
-use Rattle.primary_search.proofs.count.search.Lts as lts
-use Rattle.geometry.proofs.Box.clear_x.Reads as clear-x-reads
-use Rattle.geometry.proofs.Box.inside_x.Reads as inside-x-reads
-use Rattle.nodes.proofs.primary.Primary.is_leaf.Reads as is-leaf-reads
-use Rattle.nodes.proofs.primary.Primary.slot.Reads as slot-reads
-use Rattle.primary_search.proofs.count.hand_over.Reads as hand-over-reads
-use Rattle.primary_search.proofs.count.leaf.Reads as leaf-reads
-use Rattle.primary_search.proofs.count.opened.Reads as opened-reads
-use Rattle.table.proofs.tally.visit.Reads as visit-reads
 
--- src/count.rt:195:9
-slot-requires : tie.Need-slot-requires
-slot-requires c κs = search needs
-
--- src/count.rt:196:8
-is-leaf-requires : tie.Need-is-leaf-requires
-is-leaf-requires c κs = search needs
-
--- src/count.rt:197:9
-leaf-requires : tie.Need-leaf-requires
-leaf-requires c κs = search needs
-
--- src/count.rt:197:9
-returns : tie.Need-returns
-unfolding mainSearch♯
-returns c = rw (← c .before .before .before .slot .ensures, ← c .before .before .is-leaf .ensures, c .before .if1 .taken, ← c .leaf .ensures)
-
--- src/count.rt:199:8
+-- src/count.rt:212:8
 inside-x-requires : tie.Need-inside-x-requires
 inside-x-requires c κs = search needs
 
--- src/count.rt:200:9
-hand-over-requires : tie.Need-hand-over-requires
-hand-over-requires c κs = search needs
+-- src/count.rt:213:9
+handed-requires : tie.Need-handed-requires
+handed-requires c κs = search needs
 
--- src/count.rt:200:9
+-- src/count.rt:213:9
+returns : tie.Need-returns
+unfolding mainSearch♯ countTree
+returns c =
+    rw (← c .before .before .inside-x .ensures, c .before .if1 .taken, ← c .handed .ensures)
+
+-- src/count.rt:215:8
+before-x-requires : tie.Need-before-x-requires
+before-x-requires c κs = search needs
+
+-- src/count.rt:216:16
+none-requires : tie.Need-none-requires
+none-requires c κs = search needs
+
+-- src/count.rt:216:9
+before-requires : tie.Need-before-requires
+before-requires c κs = search needs
+
+-- src/count.rt:216:9
 returns-2 : tie.Need-returns-2
-unfolding mainSearch♯ countTree handed♯
-returns-2 c = rw (
-  ← c .before .before .before .before .before .slot .ensures,
-  ← c .before .before .before .before .is-leaf .ensures,
-  c .before .before .before .if1 .left,
-  ← c .before .before .inside-x .ensures,
-  c .before .if2 .taken,
-) (c .hand-over .ensures ∙ count-by-y _ _ _ _ _)
+unfolding mainSearch♯ countTree
+returns-2 c =
+    let at-if2 = c .before .before in
+    let at-before-x = at-if2 .before in
+    let at-if1 = at-before-x .before in
+    let at-inside-x = at-if1 .before in
+    rw (
+      ← at-inside-x .inside-x .ensures,
+      at-if1 .if1 .left,
+      ← at-before-x .before-x .ensures,
+      at-if2 .if2 .taken,
+      c .before2 .ensures,
+      c .before .none .ensures,
+    )
 
--- src/count.rt:202:8
-clear-x-requires : tie.Need-clear-x-requires
-clear-x-requires c κs = search needs
+-- src/count.rt:218:8
+past-x-requires : tie.Need-past-x-requires
+past-x-requires c κs = search needs
 
--- src/count.rt:203:9
+-- src/count.rt:219:16
+none-requires-2 : tie.Need-none-requires-2
+none-requires-2 c κs = search needs
+
+-- src/count.rt:219:9
+past-requires : tie.Need-past-requires
+past-requires c κs = search needs
+
+-- src/count.rt:219:9
+returns-3 : tie.Need-returns-3
+unfolding mainSearch♯ countTree
+returns-3 c =
+    let at-if3 = c .before .before in
+    let at-past-x = at-if3 .before in
+    let at-if2 = at-past-x .before in
+    let at-before-x = at-if2 .before in
+    let at-if1 = at-before-x .before in
+    let at-inside-x = at-if1 .before in
+    rw (
+      ← at-inside-x .inside-x .ensures,
+      at-if1 .if1 .left,
+      ← at-before-x .before-x .ensures,
+      at-if2 .if2 .left,
+      ← at-past-x .past-x .ensures,
+      at-if3 .if3 .taken,
+      c .past .ensures,
+      c .before .none2 .ensures,
+    )
+
+-- src/count.rt:221:46
+none-requires-3 : tie.Need-none-requires-3
+none-requires-3 c κs = search needs
+
+-- src/count.rt:221:46
 visit-requires : tie.Need-visit-requires
 visit-requires c κs = search needs
 
--- src/count.rt:203:9
-returns-3 : tie.Need-returns-3
-unfolding mainSearch♯ countTree
-returns-3 c = rw (
-  ← c .before .before .before .before .before .before .is-leaf .ensures,
-  c .before .before .before .before .before .if1 .left,
-  ← c .before .before .before .before .inside-x .ensures,
-  c .before .before .before .if2 .left,
-  ← c .before .before .clear-x .ensures,
-  c .before .if3 .taken,
-  ← c .visit .ensures,
-)
-
--- src/count.rt:205:38
-visit-requires-2 : tie.Need-visit-requires-2
-visit-requires-2 c κs = search needs
-
--- src/count.rt:205:5
+-- src/count.rt:221:5
 opened-requires : tie.Need-opened-requires
 opened-requires c κs = search needs
 
--- src/count.rt:191:1
+-- src/count.rt:208:1
 returns-4 : tie.Need-returns-4
 unfolding mainSearch♯ countTree
-returns-4 c = rw (
-  ← c .before .before .before .before .before .before .before .is-leaf .ensures,
-  c .before .before .before .before .before .before .if1 .left,
-  ← c .before .before .before .before .before .inside-x .ensures,
-  c .before .before .before .before .if2 .left,
-  ← c .before .before .before .clear-x .ensures,
-  c .before .before .if3 .left,
-  ← c .before .visit2 .ensures,
-  ← c .opened .ensures,
-)
+returns-4 c =
+    let at-none3 = c .before .before in
+    let at-if3 = at-none3 .before in
+    let at-past-x = at-if3 .before in
+    let at-if2 = at-past-x .before in
+    let at-before-x = at-if2 .before in
+    let at-if1 = at-before-x .before in
+    let at-inside-x = at-if1 .before in
+    rw (
+      ← at-inside-x .inside-x .ensures,
+      at-if1 .if1 .left,
+      ← at-before-x .before-x .ensures,
+      at-if2 .if2 .left,
+      ← at-past-x .past-x .ensures,
+      at-if3 .if3 .left,
+      c .opened .ensures,
+      c .before .visit .ensures,
+      at-none3 .none3 .ensures,
+    )
 
 pub search-spec : {M : Type 1} → statement M
 search-spec =
     tie.close
     (tie.spec
-    slot-requires
-    is-leaf-requires
-    leaf-requires
-    returns
     inside-x-requires
-    hand-over-requires
+    handed-requires
+    returns
+    before-x-requires
+    none-requires
+    before-requires
     returns-2
-    clear-x-requires
-    visit-requires
+    past-x-requires
+    none-requires-2
+    past-requires
     returns-3
-    visit-requires-2
+    none-requires-3
+    visit-requires
     opened-requires
     returns-4)

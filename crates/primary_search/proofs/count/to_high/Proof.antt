@@ -1,53 +1,46 @@
--- The loop keeps: left ≤ deepest; highFrom of left, base, node, tally is that of deepest, level, node₀, from. What falls: left.
-use Prim.Native.Nat.{ℕ, _<_, _≤_}
+-- The loop keeps: left ≤ deepest; highFrom of left, base, (node .0), (tally .0) is that of deepest, level, (node₀ .0), (tally₀ .0). What falls: left.
+use Rattle.primary_search.proofs.count.to_high.Statement.{statement}
+use Prim.Native.Nat.{_≤_}
 use mathlib.Core.Path.{_≡_}
 use native.Mathlib.Omega.{arith}
 use borrow.Author.Needs.{needs}
 use Rattle.model.specs.Sheet.{alongX}
 use Rattle.geometry.specs.Values.{boxValue}
 use Rattle.table.specs.Limits.{deepest}
-use Rattle.nodes.proofs.Missing.{present}
 use Rattle.nodes.specs.Count.{sideAlong, highRecord, highNode, highFrom, highFrom-zero, highFrom-suc}
 use Rattle.table.proofs.Fuel.{positive, nothing}
 use Rattle.primary_search.specs.Count.{mainKind}
-use Rattle.primary_search.proofs.count.to_high.Statement.{statement}
+use borrow.Author.Tests.{le-leb, lt-leb}
 use Rattle.primary_search.proofs.count.to_high.Tie as tie
-use Rattle.primary_search.proofs.count.to_high.Reads as reads
-use Rattle.primary_search.proofs.count.to_high.Lts as lts
-use Rattle.geometry.proofs.Box.past_x.Reads as past-x-reads
-use Rattle.nodes.proofs.primary.Primary.slot.Reads as slot-reads
-use Rattle.nodes.proofs.primary.PrimaryRecord.is_missing.Reads as is-missing-reads
-use Rattle.nodes.proofs.primary.PrimaryRecord.load.Reads as load-reads
-use Rattle.primary_search.proofs.count.handed.Reads as handed-reads
-use Rattle.table.proofs.tally.visit.Reads as visit-reads
-use Rattle.twofold_layout.proofs.levels.deeper.Reads as deeper-reads
 
 abbrev Inv-loop : tie.InvT-loop
-Inv-loop t level capacity b from base₀ node₀ tally₀ left₀ base node tally left =
+Inv-loop t level capacity b base₀ node₀ tally₀ left₀ base node tally left =
     (left ≤ deepest) ×
-    (highFrom (mainKind t capacity (boxValue b)) (sideAlong alongX (boxValue b)) t left base (node .0) tally ≡
-    highFrom (mainKind t capacity (boxValue b)) (sideAlong alongX (boxValue b)) t deepest level (node₀ .0) from)
+    (highFrom (mainKind t capacity (boxValue b)) (sideAlong alongX (boxValue b)) capacity t left base (node .0)
+    (tally .0) ≡
+    highFrom (mainKind t capacity (boxValue b)) (sideAlong alongX (boxValue b)) capacity t deepest level (node₀ .0)
+    (tally₀ .0))
 
 abbrev μ-loop : tie.MeasureT-loop
-μ-loop t level capacity b from base₀ node₀ tally₀ left₀ base node tally left = left
+μ-loop t level capacity b base₀ node₀ tally₀ left₀ base node tally left = left
 
--- src/count.rt:98:5
+-- src/count.rt:113:5
 loop-holds : tie.Need-loop-holds Inv-loop μ-loop
 loop-holds c = search needs
 
--- src/count.rt:99:9
+-- src/count.rt:114:9
 sub-left : tie.Need-sub-left Inv-loop μ-loop
 sub-left c = search needs
 
--- src/count.rt:100:13
+-- src/count.rt:115:13
 slot-requires : tie.Need-slot-requires Inv-loop μ-loop
 slot-requires c κs = search needs
 
--- src/count.rt:101:12
-is-missing-requires : tie.Need-is-missing-requires Inv-loop μ-loop
-is-missing-requires c κs = search needs
+-- src/count.rt:117:13
+lost-requires : tie.Need-lost-requires Inv-loop μ-loop
+lost-requires c κs = search needs
 
--- src/count.rt:102:13
+-- src/count.rt:117:13
 returns : tie.Need-returns Inv-loop μ-loop
 unfolding highNode highRecord
 returns c =
@@ -56,121 +49,117 @@ returns c =
     let at-loop = at-loop-test .before in
     rw (
       ← at-loop .loop .inv .1,
-      highFrom-suc _ _ _ _ (positive _ (at-loop-test .loop-test .taken)),
+      highFrom-suc _ _ _ _ _ (positive _ (at-loop-test .loop-test .taken)),
       ← at-slot .slot .ensures,
-      ← c .before .is-missing .ensures,
-      c .if1 .taken,
+      le-leb _ _ (c .before .if1 .taken),
+      ← c .lost .ensures,
     )
 
--- src/count.rt:104:13
+-- src/count.rt:119:13
 load-requires : tie.Need-load-requires Inv-loop μ-loop
-load-requires c κs = present _ _ _ (c .before .is-missing .ensures) (c .if1 .left)
+load-requires c κs = search (needs, c .if1 .left)
 
--- src/count.rt:109:9
+-- src/count.rt:124:9
 deeper-requires : tie.Need-deeper-requires Inv-loop μ-loop
 deeper-requires c κs = search needs
 
--- src/count.rt:110:12
+-- src/count.rt:125:12
 past-x-requires : tie.Need-past-x-requires Inv-loop μ-loop
 past-x-requires c κs = search needs
 
--- src/count.rt:111:13
-visit-requires : tie.Need-visit-requires Inv-loop μ-loop
-visit-requires c κs = search needs
+-- src/count.rt:126:13
+past-requires : tie.Need-past-requires Inv-loop μ-loop
+past-requires c κs = search needs
 
--- src/count.rt:112:16
+-- src/count.rt:127:16
 past-x-requires-2 : tie.Need-past-x-requires-2 Inv-loop μ-loop
 past-x-requires-2 c κs = search needs
 
--- src/count.rt:113:17
-visit-requires-2 : tie.Need-visit-requires-2 Inv-loop μ-loop
-visit-requires-2 c κs = search needs
+-- src/count.rt:128:17
+visit-requires : tie.Need-visit-requires Inv-loop μ-loop
+visit-requires c κs = search needs
 
--- src/count.rt:98:5
+-- src/count.rt:113:5
 loop-less : tie.Need-loop-less Inv-loop μ-loop
 loop-less c = search needs
 
--- src/count.rt:98:5
+-- src/count.rt:113:5
 loop-again : tie.Need-loop-again Inv-loop μ-loop
 unfolding highNode highRecord
 loop-again c =
     let at-past-x2 = c .before .before in
-    let at-visit = at-past-x2 .before in
-    let at-if2 = at-visit .before in
+    let at-past = at-past-x2 .before in
+    let at-if2 = at-past .before in
     let at-past-x = at-if2 .before in
     let at-deeper = at-past-x .before in
     let at-load = at-deeper .before .before .before .before .before in
     let at-if1 = at-load .before in
-    let at-is-missing = at-if1 .before in
-    let at-slot = at-is-missing .before in
+    let at-slot = at-if1 .before in
     let at-loop-test = at-slot .before in
     let at-loop = at-loop-test .before in (
       omega (arith, at-loop .loop .inv .0),
       rw (
         ← at-loop .loop .inv .1,
-        highFrom-suc _ _ _ _ (positive _ (at-loop-test .loop-test .taken)),
+        highFrom-suc _ _ _ _ _ (positive _ (at-loop-test .loop-test .taken)),
         ← at-slot .slot .ensures,
-        ← at-is-missing .is-missing .ensures,
-        at-if1 .if1 .left,
+        lt-leb _ _ (at-if1 .if1 .left),
         ← at-load .load .ensures,
         ← at-deeper .deeper .ensures,
         ← at-past-x .past-x .ensures,
         at-if2 .if2 .taken,
-        ← at-visit .visit .ensures,
+        ← at-past .past .ensures,
         ← at-past-x2 .past-x2 .ensures,
         c .before .if3 .taken,
-        ← c .visit2 .ensures,
+        ← c .visit .ensures,
       ),
     )
 
--- src/count.rt:116:17
+-- src/count.rt:131:17
 handed-requires : tie.Need-handed-requires Inv-loop μ-loop
 handed-requires c κs = search needs
 
--- src/count.rt:116:17
+-- src/count.rt:131:17
 returns-2 : tie.Need-returns-2 Inv-loop μ-loop
 unfolding highNode highRecord
 returns-2 c =
     let at-past-x2 = c .before .before in
-    let at-visit = at-past-x2 .before in
-    let at-if2 = at-visit .before in
+    let at-past = at-past-x2 .before in
+    let at-if2 = at-past .before in
     let at-past-x = at-if2 .before in
     let at-deeper = at-past-x .before in
     let at-load = at-deeper .before .before .before .before .before in
     let at-if1 = at-load .before in
-    let at-is-missing = at-if1 .before in
-    let at-slot = at-is-missing .before in
+    let at-slot = at-if1 .before in
     let at-loop-test = at-slot .before in
     let at-loop = at-loop-test .before in
     rw (
       ← at-loop .loop .inv .1,
-      highFrom-suc _ _ _ _ (positive _ (at-loop-test .loop-test .taken)),
+      highFrom-suc _ _ _ _ _ (positive _ (at-loop-test .loop-test .taken)),
       ← at-slot .slot .ensures,
-      ← at-is-missing .is-missing .ensures,
-      at-if1 .if1 .left,
+      lt-leb _ _ (at-if1 .if1 .left),
       ← at-load .load .ensures,
       ← at-deeper .deeper .ensures,
       ← at-past-x .past-x .ensures,
       at-if2 .if2 .taken,
-      ← at-visit .visit .ensures,
+      ← at-past .past .ensures,
       ← at-past-x2 .past-x2 .ensures,
       c .before .if3 .left,
       ← c .handed .ensures,
     )
 
--- src/count.rt:119:34
+-- src/count.rt:134:21
 handed-requires-2 : tie.Need-handed-requires-2 Inv-loop μ-loop
 handed-requires-2 c κs = search needs
 
--- src/count.rt:119:13
-visit-requires-3 : tie.Need-visit-requires-3 Inv-loop μ-loop
-visit-requires-3 c κs = search needs
+-- src/count.rt:134:13
+visit-requires-2 : tie.Need-visit-requires-2 Inv-loop μ-loop
+visit-requires-2 c κs = search needs
 
--- src/count.rt:98:5
+-- src/count.rt:113:5
 loop-less-2 : tie.Need-loop-less-2 Inv-loop μ-loop
 loop-less-2 c = search needs
 
--- src/count.rt:98:5
+-- src/count.rt:113:5
 loop-again-2 : tie.Need-loop-again-2 Inv-loop μ-loop
 unfolding highNode highRecord
 loop-again-2 c =
@@ -179,30 +168,36 @@ loop-again-2 c =
     let at-deeper = at-past-x .before in
     let at-load = at-deeper .before .before .before .before .before in
     let at-if1 = at-load .before in
-    let at-is-missing = at-if1 .before in
-    let at-slot = at-is-missing .before in
+    let at-slot = at-if1 .before in
     let at-loop-test = at-slot .before in
     let at-loop = at-loop-test .before in (
       omega (arith, at-loop .loop .inv .0),
       rw (
         ← at-loop .loop .inv .1,
-        highFrom-suc _ _ _ _ (positive _ (at-loop-test .loop-test .taken)),
+        highFrom-suc _ _ _ _ _ (positive _ (at-loop-test .loop-test .taken)),
         ← at-slot .slot .ensures,
-        ← at-is-missing .is-missing .ensures,
-        at-if1 .if1 .left,
+        lt-leb _ _ (at-if1 .if1 .left),
         ← at-load .load .ensures,
         ← at-deeper .deeper .ensures,
         ← at-past-x .past-x .ensures,
         at-if2 .if2 .left,
         ← c .before .handed2 .ensures,
-        ← c .visit3 .ensures,
+        ← c .visit2 .ensures,
       ),
     )
 
--- src/count.rt:91:1
+-- src/count.rt:138:5
+lost-requires-2 : tie.Need-lost-requires-2 Inv-loop μ-loop
+lost-requires-2 c κs = search needs
+
+-- src/count.rt:105:1
 returns-3 : tie.Need-returns-3 Inv-loop μ-loop
 unfolding highNode highRecord
-returns-3 c = rw (← c .before .loop .inv .1, highFrom-zero _ _ _ _ (nothing _ (c .loop-test .left)))
+returns-3 c = rw (
+  ← c .before .before .loop .inv .1,
+  highFrom-zero _ _ _ _ _ (nothing _ (c .before .loop-test .left)),
+  ← c .lost2 .ensures,
+)
 
 pub to-high-spec : {M : Type 1} → statement M
 to-high-spec =
@@ -213,20 +208,21 @@ to-high-spec =
     loop-holds
     sub-left
     slot-requires
-    is-missing-requires
+    lost-requires
     returns
     load-requires
     deeper-requires
     past-x-requires
-    visit-requires
+    past-requires
     past-x-requires-2
-    visit-requires-2
+    visit-requires
     loop-less
     loop-again
     handed-requires
     returns-2
     handed-requires-2
-    visit-requires-3
+    visit-requires-2
     loop-less-2
     loop-again-2
+    lost-requires-2
     returns-3)

@@ -1,7 +1,7 @@
--- The loop keeps: what is left to search beneath `node`, with the levels left, is what was asked for. What falls: the levels left. Assumes nothing.
-use Rattle.table.proofs.Fuel.{positive, nothing}
+-- The loop keeps: left ≤ deepest; findBeneath♯ of left, (node .0) is that of deepest, (node₀ .0). What falls: left.
 use Rattle.primary_search.proofs.find.find_beneath.Statement.{statement}
-use Prim.Native.Nat.{ℕ, _<_, _≤_}
+use Rattle.table.proofs.Fuel.{positive, nothing}
+use Prim.Native.Nat.{_≤_}
 use mathlib.Core.Path.{_≡_}
 use native.Mathlib.Omega.{arith}
 use borrow.Author.Needs.{needs}
@@ -10,15 +10,6 @@ use Rattle.geometry.specs.Values.{markValue}
 use Rattle.table.specs.Limits.{deepest}
 use Rattle.primary_search.specs.Find.{findLeaf, findNode, findBeneath♯, findBeneath♯-zero, findBeneath♯-suc}
 use Rattle.primary_search.proofs.find.find_beneath.Tie as tie
-use Rattle.primary_search.proofs.find.find_beneath.Reads as reads
-use Rattle.primary_search.proofs.find.find_beneath.Lts as lts
-use Rattle.geometry.proofs.Mark.below_x.Reads as below-x-reads
-use Rattle.geometry.proofs.Mark.same.Reads as same-reads
-use Rattle.nodes.proofs.primary.Primary.is_leaf.Reads as is-leaf-reads
-use Rattle.nodes.proofs.primary.Primary.slot.Reads as slot-reads
-use Rattle.primary_search.proofs.find.left_inside.Reads as left-inside-reads
-use Rattle.primary_search.proofs.find.mark_inside.Reads as mark-inside-reads
-use Rattle.primary_search.proofs.find.right_inside.Reads as right-inside-reads
 
 abbrev Inv-loop : tie.InvT-loop
 Inv-loop t capacity m node₀ left₀ node left =
@@ -28,19 +19,19 @@ Inv-loop t capacity m node₀ left₀ node left =
 abbrev μ-loop : tie.MeasureT-loop
 μ-loop t capacity m node₀ left₀ node left = left
 
--- src/find.rt:55:5
+-- src/find.rt:24:5
 loop-holds : tie.Need-loop-holds Inv-loop μ-loop
 loop-holds c = search needs
 
--- src/find.rt:56:9
+-- src/find.rt:25:9
 sub-left : tie.Need-sub-left Inv-loop μ-loop
 sub-left c = search needs
 
--- src/find.rt:57:13
+-- src/find.rt:26:13
 slot-requires : tie.Need-slot-requires Inv-loop μ-loop
 slot-requires c κs = search needs
 
--- src/find.rt:59:13
+-- src/find.rt:28:13
 returns : tie.Need-returns Inv-loop μ-loop
 unfolding findNode
 returns c =
@@ -53,26 +44,26 @@ returns c =
       le-leb _ _ (c .if1 .taken),
     )
 
--- src/find.rt:61:13
-mark-inside-requires : tie.Need-mark-inside-requires Inv-loop μ-loop
-mark-inside-requires c κs = search needs
+-- src/find.rt:30:13
+load-requires : tie.Need-load-requires Inv-loop μ-loop
+load-requires c κs = search (needs, c .if1 .left)
 
--- src/find.rt:62:12
+-- src/find.rt:31:12
 is-leaf-requires : tie.Need-is-leaf-requires Inv-loop μ-loop
 is-leaf-requires c κs = search needs
 
--- src/find.rt:63:16
+-- src/find.rt:32:16
 same-requires : tie.Need-same-requires Inv-loop μ-loop
 same-requires c κs = search needs
 
--- src/find.rt:64:17
+-- src/find.rt:33:17
 returns-2 : tie.Need-returns-2 Inv-loop μ-loop
 unfolding findNode findLeaf
 returns-2 c =
     let at-if2 = c .before .before in
     let at-is-leaf = at-if2 .before in
-    let at-mark-inside = at-is-leaf .before in
-    let at-if1 = at-mark-inside .before in
+    let at-load = at-is-leaf .before in
+    let at-if1 = at-load .before in
     let at-slot = at-if1 .before in
     let at-loop-test = at-slot .before in
     let at-loop = at-loop-test .before in
@@ -81,21 +72,21 @@ returns-2 c =
       findBeneath♯-suc _ (positive _ (at-loop-test .loop-test .taken)),
       ← at-slot .slot .ensures,
       lt-leb _ _ (at-if1 .if1 .left),
-      ← at-mark-inside .mark-inside .ensures,
+      ← at-load .load .ensures,
       ← at-is-leaf .is-leaf .ensures,
       at-if2 .if2 .taken,
       ← c .before .same .ensures,
       c .if3 .taken,
     )
 
--- src/find.rt:66:13
+-- src/find.rt:35:13
 returns-3 : tie.Need-returns-3 Inv-loop μ-loop
 unfolding findNode findLeaf
 returns-3 c =
     let at-if2 = c .before .before in
     let at-is-leaf = at-if2 .before in
-    let at-mark-inside = at-is-leaf .before in
-    let at-if1 = at-mark-inside .before in
+    let at-load = at-is-leaf .before in
+    let at-if1 = at-load .before in
     let at-slot = at-if1 .before in
     let at-loop-test = at-slot .before in
     let at-loop = at-loop-test .before in
@@ -104,34 +95,37 @@ returns-3 c =
       findBeneath♯-suc _ (positive _ (at-loop-test .loop-test .taken)),
       ← at-slot .slot .ensures,
       lt-leb _ _ (at-if1 .if1 .left),
-      ← at-mark-inside .mark-inside .ensures,
+      ← at-load .load .ensures,
       ← at-is-leaf .is-leaf .ensures,
       at-if2 .if2 .taken,
       ← c .before .same .ensures,
       c .if3 .left,
     )
 
--- src/find.rt:68:12
+-- src/find.rt:37:13
+load-requires-2 : tie.Need-load-requires-2 Inv-loop μ-loop
+load-requires-2 c κs =
+    let at-if1 = c .before .before .before in
+    search (needs, at-if1 .if1 .left)
+
+-- src/find.rt:40:12
 below-x-requires : tie.Need-below-x-requires Inv-loop μ-loop
 below-x-requires c κs = search needs
 
--- src/find.rt:69:13
-left-inside-requires : tie.Need-left-inside-requires Inv-loop μ-loop
-left-inside-requires c κs = search needs
-
--- src/find.rt:55:5
+-- src/find.rt:24:5
 loop-less : tie.Need-loop-less Inv-loop μ-loop
 loop-less c = search needs
 
--- src/find.rt:55:5
+-- src/find.rt:24:5
 loop-again : tie.Need-loop-again Inv-loop μ-loop
 unfolding findNode
 loop-again c =
     let at-below-x = c .before .before in
-    let at-if2 = at-below-x .before in
+    let at-load2 = at-below-x .before .before .before in
+    let at-if2 = at-load2 .before in
     let at-is-leaf = at-if2 .before in
-    let at-mark-inside = at-is-leaf .before in
-    let at-if1 = at-mark-inside .before in
+    let at-load = at-is-leaf .before in
+    let at-if1 = at-load .before in
     let at-slot = at-if1 .before in
     let at-loop-test = at-slot .before in
     let at-loop = at-loop-test .before in (
@@ -141,32 +135,29 @@ loop-again c =
         findBeneath♯-suc _ (positive _ (at-loop-test .loop-test .taken)),
         ← at-slot .slot .ensures,
         lt-leb _ _ (at-if1 .if1 .left),
-        ← at-mark-inside .mark-inside .ensures,
+        ← at-load .load .ensures,
         ← at-is-leaf .is-leaf .ensures,
         at-if2 .if2 .left,
+        ← at-load2 .load2 .ensures,
         ← at-below-x .below-x .ensures,
         c .before .if4 .taken,
-        ← c .left-inside .ensures,
       ),
     )
 
--- src/find.rt:71:13
-right-inside-requires : tie.Need-right-inside-requires Inv-loop μ-loop
-right-inside-requires c κs = search needs
-
--- src/find.rt:55:5
+-- src/find.rt:24:5
 loop-less-2 : tie.Need-loop-less-2 Inv-loop μ-loop
 loop-less-2 c = search needs
 
--- src/find.rt:55:5
+-- src/find.rt:24:5
 loop-again-2 : tie.Need-loop-again-2 Inv-loop μ-loop
 unfolding findNode
 loop-again-2 c =
     let at-below-x = c .before .before in
-    let at-if2 = at-below-x .before in
+    let at-load2 = at-below-x .before .before .before in
+    let at-if2 = at-load2 .before in
     let at-is-leaf = at-if2 .before in
-    let at-mark-inside = at-is-leaf .before in
-    let at-if1 = at-mark-inside .before in
+    let at-load = at-is-leaf .before in
+    let at-if1 = at-load .before in
     let at-slot = at-if1 .before in
     let at-loop-test = at-slot .before in
     let at-loop = at-loop-test .before in (
@@ -176,16 +167,16 @@ loop-again-2 c =
         findBeneath♯-suc _ (positive _ (at-loop-test .loop-test .taken)),
         ← at-slot .slot .ensures,
         lt-leb _ _ (at-if1 .if1 .left),
-        ← at-mark-inside .mark-inside .ensures,
+        ← at-load .load .ensures,
         ← at-is-leaf .is-leaf .ensures,
         at-if2 .if2 .left,
+        ← at-load2 .load2 .ensures,
         ← at-below-x .below-x .ensures,
         c .before .if4 .left,
-        ← c .right-inside .ensures,
       ),
     )
 
--- src/find.rt:49:1
+-- src/find.rt:18:1
 returns-4 : tie.Need-returns-4 Inv-loop μ-loop
 unfolding findNode findLeaf
 returns-4 c = rw (← c .before .loop .inv .1, findBeneath♯-zero _ (nothing _ (c .loop-test .left)))
@@ -200,16 +191,15 @@ find-beneath-spec =
     sub-left
     slot-requires
     returns
-    mark-inside-requires
+    load-requires
     is-leaf-requires
     same-requires
     returns-2
     returns-3
+    load-requires-2
     below-x-requires
-    left-inside-requires
     loop-less
     loop-again
-    right-inside-requires
     loop-less-2
     loop-again-2
     returns-4)

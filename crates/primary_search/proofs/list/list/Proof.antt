@@ -1,52 +1,58 @@
 use borrow.Author.Needs.{needs}
 use Rattle.primary_search.proofs.list.list.Statement.{statement}
 use borrow.Author.Tests.{eq-eqb, ne-eqb}
-use Rattle.primary_search.specs.List.{listRoot, mainList♯}
+use Rattle.primary_search.specs.List.{listRoot}
 use Rattle.primary_search.proofs.list.list.Tie as tie
-use Rattle.primary_search.proofs.list.list.Reads as reads
-use Rattle.primary_search.proofs.list.list.Lts as lts
-use Rattle.primary_search.proofs.list.list_beneath.Reads as list-beneath-reads
-use Rattle.table.proofs.header.capacity.Reads as capacity-reads
-use Rattle.nodes.proofs.primary.PrimaryArm.at.Reads as at-reads
-use Rattle.twofold_layout.proofs.levels.top.Reads as top-reads
 
--- src/list.rt:74:9
-at-requires : tie.Need-at-requires
-at-requires c κs = search needs
+-- src/list.rt:106:9
+load-requires : tie.Need-load-requires
+load-requires c κs = search needs
 
--- src/list.rt:76:9
+-- src/list.rt:108:9
+none-requires : tie.Need-none-requires
+none-requires c κs = search needs
+
+-- src/list.rt:108:9
 returns : tie.Need-returns
-unfolding mainList♯ listRoot
-returns c = rw (← c .before .before .at .ensures, eq-eqb _ _ (c .if1 .taken))
+unfolding listRoot
+returns c =
+    let at-load = c .before .before .before in
+    rw (← at-load .load .ensures, eq-eqb _ _ (c .before .if1 .taken), ← c .none .ensures)
 
--- src/list.rt:78:9
-capacity-requires : tie.Need-capacity-requires
-capacity-requires c κs = search needs
-
--- src/list.rt:79:9
+-- src/list.rt:110:9
 top-requires : tie.Need-top-requires
 top-requires c κs = search needs
 
--- src/list.rt:80:5
+-- src/list.rt:111:11
 list-beneath-requires : tie.Need-list-beneath-requires
 list-beneath-requires c κs = search needs
 
--- src/list.rt:71:1
+-- src/list.rt:102:1
 same-length : tie.Need-same-length
 same-length c = search needs
 
--- src/list.rt:71:1
+-- src/list.rt:102:1
 returns-2 : tie.Need-returns-2
-unfolding mainList♯ listRoot
-returns-2 c = rw (← c .before .before .before .before .before .before .before .before .at .ensures, ne-eqb _ _ (c .before .before .before .before .before .before .if1 .left), ← c .before .before .before .before .before .capacity .ensures, ← c .before .before .before .before .top .ensures, ← c .before .before .list-beneath .ensures)
+unfolding listRoot
+returns-2 c =
+    let at-list-beneath = c .before .before in
+    let at-top = at-list-beneath .before .before in
+    let at-if1 = at-top .before in
+    let at-load = at-if1 .before .before in
+    rw (
+      ← at-load .load .ensures,
+      ne-eqb _ _ (at-if1 .if1 .left),
+      ← at-top .top .ensures,
+      ← at-list-beneath .list-beneath .ensures,
+    )
 
 pub list-spec : {M : Type 1} → statement M
 list-spec =
     tie.close
     (tie.spec
-    at-requires
+    load-requires
+    none-requires
     returns
-    capacity-requires
     top-requires
     list-beneath-requires
     same-length

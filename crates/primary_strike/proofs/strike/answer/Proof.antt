@@ -1,8 +1,6 @@
 use Rattle.primary_strike.proofs.strike.answer.Statement.{statement}
 use Rattle.secondary_update.specs.Updates.{strikeOf}
 use Rattle.primary_strike.proofs.strike.answer.Tie as tie
-use Rattle.primary_strike.proofs.strike.answer.Reads as reads
-use Rattle.primary_strike.proofs.strike.answer.Lts as lts
 
 -- src/strike.rt:33:1
 returns : tie.Need-returns

@@ -1,9 +1,6 @@
 use borrow.Author.Needs.{needs}
 use Rattle.primary_strike.proofs.strike.damaged.Statement.{statement}
 use Rattle.primary_strike.proofs.strike.damaged.Tie as tie
-use Rattle.primary_strike.proofs.strike.damaged.Reads as reads
-use Rattle.primary_strike.proofs.strike.damaged.Lts as lts
-use Rattle.nodes.proofs.primary.PrimaryArm.none.Reads as none-reads
 
 -- src/strike.rt:46:9
 none-requires : tie.Need-none-requires

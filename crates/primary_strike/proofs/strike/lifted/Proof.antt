@@ -2,11 +2,6 @@ use borrow.Author.Needs.{needs}
 use Rattle.primary_strike.proofs.strike.lifted.Statement.{statement}
 use Rattle.primary_strike.specs.Strike.{lifted♯}
 use Rattle.primary_strike.proofs.strike.lifted.Tie as tie
-use Rattle.primary_strike.proofs.strike.lifted.Reads as reads
-use Rattle.primary_strike.proofs.strike.lifted.Lts as lts
-use Rattle.primary_strike.proofs.lift.lift.Reads as lift-reads
-use Rattle.primary_strike.proofs.strike.answer.Reads as answer-reads
-use Rattle.twofold_layout.proofs.levels.deeper.Reads as deeper-reads
 
 -- src/strike.rt:60:9
 deeper-requires : tie.Need-deeper-requires

@@ -3,14 +3,6 @@ use Rattle.primary_strike.proofs.strike.strike.Statement.{statement}
 use borrow.Author.Tests.{eq-eqb, ne-eqb}
 use Rattle.primary_strike.specs.Strike.{mainStrike♯, putStruck, strikeRoot}
 use Rattle.primary_strike.proofs.strike.strike.Tie as tie
-use Rattle.primary_strike.proofs.strike.strike.Reads as reads
-use Rattle.primary_strike.proofs.strike.strike.Lts as lts
-use Rattle.nodes.proofs.primary.Primary.is_leaf.Reads as is-leaf-reads
-use Rattle.nodes.proofs.primary.PrimaryArm.load.Reads as load-reads
-use Rattle.nodes.proofs.primary.PrimaryArm.none.Reads as none-reads
-use Rattle.nodes.proofs.primary.PrimaryArm.store.Reads as store-reads
-use Rattle.primary_strike.proofs.strike.strike_beneath.Reads as strike-beneath-reads
-use Rattle.twofold_layout.proofs.levels.top.Reads as top-reads
 
 -- src/strike.rt:186:9
 load-requires : tie.Need-load-requires

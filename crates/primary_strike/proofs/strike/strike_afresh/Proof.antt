@@ -2,11 +2,6 @@ use borrow.Author.Needs.{needs}
 use Rattle.primary_strike.proofs.strike.strike_afresh.Statement.{statement}
 use Rattle.primary_strike.specs.Strike.{struckAfresh♯, struckFresh}
 use Rattle.primary_strike.proofs.strike.strike_afresh.Tie as tie
-use Rattle.primary_strike.proofs.strike.strike_afresh.Reads as reads
-use Rattle.primary_strike.proofs.strike.strike_afresh.Lts as lts
-use Rattle.nodes.proofs.weights.fewer.Reads as fewer-reads
-use Rattle.primary_build.proofs.build.rebuild.Reads as rebuild-reads
-use Rattle.primary_strike.proofs.strike.answer.Reads as answer-reads
 
 -- src/strike.rt:77:9
 fewer-requires : tie.Need-fewer-requires

@@ -2,9 +2,6 @@ use borrow.Author.Needs.{needs}
 use Rattle.primary_strike.proofs.strike.strike_auxiliary.Statement.{statement}
 use Rattle.primary_strike.specs.Strike.{armOnly, struckAuxiliary♯}
 use Rattle.primary_strike.proofs.strike.strike_auxiliary.Tie as tie
-use Rattle.primary_strike.proofs.strike.strike_auxiliary.Reads as reads
-use Rattle.primary_strike.proofs.strike.strike_auxiliary.Lts as lts
-use Rattle.secondary_update.proofs.strike.strike.Reads as strike-reads
 
 -- src/strike.rt:94:9
 strike-requires : tie.Need-strike-requires

@@ -3,13 +3,6 @@ use Rattle.primary_strike.proofs.strike.strike_over.Statement.{statemen
 use borrow.Author.Tests.{eq-eqb, ne-eqb}
 use Rattle.primary_strike.specs.Strike.{mainStrikeOver}
 use Rattle.primary_strike.proofs.strike.strike_over.Tie as tie
-use Rattle.primary_strike.proofs.strike.strike_over.Reads as reads
-use Rattle.primary_strike.proofs.strike.strike_over.Lts as lts
-use Rattle.nodes.proofs.primary.PrimaryArm.over.Reads as over-reads
-use Rattle.nodes.proofs.primary.PrimaryRecord.store.Reads as store-reads
-use Rattle.nodes.proofs.primary.PrimaryRecord.store_auxiliary.Reads as store-auxiliary-reads
-use Rattle.primary_strike.proofs.strike.answer.Reads as answer-reads
-use Rattle.primary_strike.proofs.strike.damaged.Reads as damaged-reads
 
 -- src/strike.rt:112:9
 damaged-requires : tie.Need-damaged-requires

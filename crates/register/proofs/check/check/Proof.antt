@@ -5,10 +5,6 @@ use Rattle.register.proofs.Reading.{check-not-table, check-unsound, che
 use borrow.Author.Needs.{needs}
 use Rattle.register.proofs.check.check.Statement.{statement}
 use Rattle.register.proofs.check.check.Tie as tie
-use Rattle.register.proofs.check.check.Reads as reads
-use Rattle.register.proofs.check.check.Lts as lts
-use Rattle.checking.proofs.check.check.Reads as check-reads
-use Rattle.table.proofs.header.own_words.Reads as own-words-reads
 
 -- src/check.rt:13:9
 own-words-requires : tie.Need-own-words-requires

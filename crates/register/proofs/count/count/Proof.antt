@@ -2,9 +2,6 @@ use Rattle.register.proofs.Reading.{count-performs}
 use borrow.Author.Needs.{needs}
 use Rattle.register.proofs.count.count.Statement.{statement}
 use Rattle.register.proofs.count.count.Tie as tie
-use Rattle.register.proofs.count.count.Reads as reads
-use Rattle.register.proofs.count.count.Lts as lts
-use Rattle.register.proofs.count.counted.Reads as counted-reads
 
 -- src/count.rt:48:5
 counted-requires : tie.Need-counted-requires

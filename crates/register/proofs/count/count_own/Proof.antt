@@ -1,15 +1,13 @@
 -- `count_own` meets its contract: the visits and the marks of the tally are tested before they are told. Assumes nothing.
+use Rattle.register.proofs.Branches.{count-read}
 use borrow.Author.Needs.{needs}
 use borrow.Author.Tests.{lt-ltb, le-ltb}
 use Rattle.register.specs.Mirrors.{countOwn♯, tallied}
 use Rattle.register.proofs.count.count_own.Statement.{statement}
 use Rattle.register.proofs.count.count_own.Tie as tie
-use Rattle.register.proofs.count.count_own.Reads as reads
-use Rattle.register.proofs.count.count_own.Lts as lts
-use Rattle.primary_search.proofs.count.count.Reads as count-reads
-use Rattle.table.proofs.header.live.Reads as live-reads
-use Rattle.table.proofs.tally.found.Reads as found-reads
-use Rattle.table.proofs.tally.visits.Reads as visits-reads
+
+capacity-requires : tie.Need-capacity-requires
+capacity-requires c κs = search needs
 
 count-requires : tie.Need-count-requires
 count-requires c κs = search needs
@@ -19,7 +17,9 @@ visits-requires c κs = search needs
 
 returns : tie.Need-returns
 unfolding countOwn♯ tallied
-returns c = rw (← c .before .before .count .ensures, ← c .before .visits .ensures, lt-ltb _ _ (c .if1 .taken))
+returns c =
+    let at-count = c .before .before in
+    rw (← count-read _ _ (at-count .before .capacity .ensures) _ _ (at-count .count .ensures), ← c .before .visits .ensures, lt-ltb _ _ (c .if1 .taken))
 
 found-requires : tie.Need-found-requires
 found-requires c κs = search needs
@@ -35,7 +35,7 @@ returns-2 c =
     let at-visits = at-if1 .before in
     let at-count = at-visits .before in
     rw (
-      ← at-count .count .ensures,
+      ← count-read _ _ (at-count .before .capacity .ensures) _ _ (at-count .count .ensures),
       ← at-visits .visits .ensures,
       le-ltb _ _ (at-if1 .if1 .left),
       ← at-found .found .ensures,
@@ -51,7 +51,7 @@ returns-3 c =
     let at-visits = at-if1 .before in
     let at-count = at-visits .before in
     rw (
-      ← at-count .count .ensures,
+      ← count-read _ _ (at-count .before .capacity .ensures) _ _ (at-count .count .ensures),
       ← at-visits .visits .ensures,
       le-ltb _ _ (at-if1 .if1 .left),
       ← at-found .found .ensures,
@@ -61,4 +61,4 @@ returns-3 c =
 
 pub count-own-spec : {M : Type 1} → statement M
 count-own-spec =
-    tie.close (tie.spec count-requires visits-requires returns found-requires live-requires returns-2 returns-3)
+    tie.close (tie.spec capacity-requires count-requires visits-requires returns found-requires live-requires returns-2 returns-3)

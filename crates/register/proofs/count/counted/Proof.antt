@@ -2,16 +2,11 @@
 use mathlib.Core.Path.{sym, ap, _∙_}
 use native.Mathlib.Omega.{arith}
 use Rattle.geometry.specs.Values.{boxOutcome}
-use Rattle.register.proofs.Own.{own-fits}
+use Rattle.register.proofs.Own.{own-fits, part-room}
 use Rattle.register.proofs.Branches.{count-not-table, count-crossed, count-own}
 use borrow.Author.Needs.{needs}
 use Rattle.register.proofs.count.counted.Statement.{statement}
 use Rattle.register.proofs.count.counted.Tie as tie
-use Rattle.register.proofs.count.counted.Reads as reads
-use Rattle.register.proofs.count.counted.Lts as lts
-use Rattle.table.proofs.header.own.Reads as own-reads
-use Rattle.geometry.proofs.Box.new.Reads as new-reads
-use Rattle.register.proofs.count.count_own.Reads as count-own-reads
 
 own-requires : tie.Need-own-requires
 own-requires c κs = search needs
@@ -41,7 +36,11 @@ part-count-own-end c =
     omega (arith, at-own .own .ensures .0, own-fits (at-start .args .table .now))
 
 count-own-requires : tie.Need-count-own-requires
-count-own-requires c κs = search needs
+count-own-requires c κs =
+    let at-if1 = c .before .before .before .before .before in
+    let at-own = at-if1 .before in
+    let at-start = at-own .before .before in
+    part-room (at-start .args .table .now) _ (at-own .own .ensures .0) (at-if1 .if1 .left)
 
 returns-2 : tie.Need-returns-2
 returns-2 c =

@@ -2,9 +2,6 @@ use Rattle.register.proofs.Updating.{insert-performs}
 use borrow.Author.Needs.{needs}
 use Rattle.register.proofs.insert.insert.Statement.{statement}
 use Rattle.register.proofs.insert.insert.Tie as tie
-use Rattle.register.proofs.insert.insert.Reads as reads
-use Rattle.register.proofs.insert.insert.Lts as lts
-use Rattle.register.proofs.insert.inserted.Reads as inserted-reads
 
 -- src/insert.rt:52:5
 inserted-requires : tie.Need-inserted-requires

@@ -7,11 +7,6 @@ use Rattle.register.proofs.Branches.{update-not-table, update-outside, 
 use borrow.Author.Needs.{needs}
 use Rattle.register.proofs.insert.inserted.Statement.{statement}
 use Rattle.register.proofs.insert.inserted.Tie as tie
-use Rattle.register.proofs.insert.inserted.Reads as reads
-use Rattle.register.proofs.insert.inserted.Lts as lts
-use Rattle.table.proofs.header.own_words.Reads as own-words-reads
-use Rattle.geometry.proofs.Mark.new.Reads as new-reads
-use Rattle.register.proofs.insert.insert_own.Reads as insert-own-reads
 
 -- src/insert.rt:39:9
 own-words-requires : tie.Need-own-words-requires

@@ -2,9 +2,6 @@ use Rattle.register.proofs.Listing.{list-performs}
 use borrow.Author.Needs.{needs}
 use Rattle.register.proofs.list.list.Statement.{statement}
 use Rattle.register.proofs.list.list.Tie as tie
-use Rattle.register.proofs.list.list.Reads as reads
-use Rattle.register.proofs.list.list.Lts as lts
-use Rattle.register.proofs.list.listed.Reads as listed-reads
 
 -- src/list.rt:102:5
 listed-requires : tie.Need-listed-requires

@@ -1,12 +1,7 @@
-use Rattle.register.proofs.Branches.{list-marks}
+use Rattle.register.proofs.Branches.{list-read, list-marks}
 use borrow.Author.Needs.{needs}
 use Rattle.register.proofs.list.list_marks.Statement.{statement}
 use Rattle.register.proofs.list.list_marks.Tie as tie
-use Rattle.register.proofs.list.list_marks.Reads as reads
-use Rattle.register.proofs.list.list_marks.Lts as lts
-use Rattle.primary_search.proofs.list.list.Reads as list-reads
-use Rattle.sorting.proofs.sort.sort_lists.Reads as sort-lists-reads
-use Rattle.table.proofs.tally.visits.Reads as visits-reads
 
 -- src/list.rt:34:17
 mul-words : tie.Need-mul-words
@@ -56,7 +51,9 @@ returns : tie.Need-returns
 returns c =
     let at-sorted = c .before .before .before .before .before in
     let at-listed = at-sorted .before .before .before .before .before in
-    list-marks _ _ _ _ _ _ _ _ _ _ _ _ (at-listed .list .ensures) (at-listed .list .kept .1 .1 .0) (c .visits .ensures)
+    let start = at-listed .before .before .before .before .before in
+    list-marks _ _ _ _ _ _ _ _ _ _ _ _ (list-read _ _ (start .pre .0 .0) _ _ _ _ (at-listed .list .ensures))
+    (at-listed .list .kept .1 .1 .1 .0) (c .visits .ensures)
     (at-sorted .sort-lists .ensures .0) (at-sorted .sort-lists .ensures .1)
 
 pub list-marks-spec : {M : Type 1} → statement M

@@ -1,18 +1,14 @@
 -- `list_own` meets its contract: the count's figures tested, then the lists' lengths, before anything is written. Assumes nothing.
-use Rattle.register.proofs.Branches.{list-lost, list-many, list-short, list-lists}
+use Rattle.register.proofs.Branches.{count-read, list-lost, list-many, list-short, list-lists}
 use mathlib.Core.Path.{refl}
 use native.Mathlib.Omega.{arith}
 use mathlib.Core.Logic.{inl, inr}
 use borrow.Author.Needs.{needs}
 use Rattle.register.proofs.list.list_own.Statement.{statement}
 use Rattle.register.proofs.list.list_own.Tie as tie
-use Rattle.register.proofs.list.list_own.Reads as reads
-use Rattle.register.proofs.list.list_own.Lts as lts
-use Rattle.primary_search.proofs.count.count.Reads as count-reads
-use Rattle.register.proofs.list.list_marks.Reads as list-marks-reads
-use Rattle.table.proofs.header.live.Reads as live-reads
-use Rattle.table.proofs.tally.found.Reads as found-reads
-use Rattle.table.proofs.tally.visits.Reads as visits-reads
+
+capacity-requires : tie.Need-capacity-requires
+capacity-requires c κs = search needs
 
 count-requires : tie.Need-count-requires
 count-requires c κs = search needs
@@ -22,7 +18,8 @@ visits-requires c κs = search needs
 
 returns : tie.Need-returns
 returns c =
-    list-lost _ _ _ _ _ _ _ _ (c .before .before .count .ensures) (c .before .visits .ensures) refl (c .if1 .taken)
+    let at-count = c .before .before in
+    list-lost _ _ _ _ _ _ _ _ (count-read _ _ (at-count .before .capacity .ensures) _ _ (at-count .count .ensures)) (c .before .visits .ensures) refl (c .if1 .taken)
 
 found-requires : tie.Need-found-requires
 found-requires c κs = search needs
@@ -36,7 +33,7 @@ returns-2 c =
     let at-found = at-live .before in
     let at-visits = at-found .before .before in
     let at-count = at-visits .before in
-    list-many _ _ _ _ _ _ _ _ (at-count .count .ensures) (at-visits .visits .ensures) (at-found .found .ensures)
+    list-many _ _ _ _ _ _ _ _ (count-read _ _ (at-count .before .capacity .ensures) _ _ (at-count .count .ensures)) (at-visits .visits .ensures) (at-found .found .ensures)
     (omega (arith, at-live .live .ensures, c .if2 .taken))
 
 cast-words : tie.Need-cast-words
@@ -52,7 +49,7 @@ returns-3 c =
     let at-if1 = at-found .before in
     let at-visits = at-if1 .before in
     let at-count = at-visits .before in
-    list-short _ _ _ _ _ _ _ _ (at-count .count .ensures) (at-visits .visits .ensures) (at-found .found .ensures)
+    list-short _ _ _ _ _ _ _ _ (count-read _ _ (at-count .before .capacity .ensures) _ _ (at-count .count .ensures)) (at-visits .visits .ensures) (at-found .found .ensures)
     (at-if1 .if1 .left) (omega (arith, at-live .live .ensures, c .before .if2 .left)) (inl (c .if3 .taken))
 
 returns-4 : tie.Need-returns-4
@@ -63,7 +60,7 @@ returns-4 c =
     let at-if1 = at-found .before in
     let at-visits = at-if1 .before in
     let at-count = at-visits .before in
-    list-short _ _ _ _ _ _ _ _ (at-count .count .ensures) (at-visits .visits .ensures) (at-found .found .ensures)
+    list-short _ _ _ _ _ _ _ _ (count-read _ _ (at-count .before .capacity .ensures) _ _ (at-count .count .ensures)) (at-visits .visits .ensures) (at-found .found .ensures)
     (at-if1 .if1 .left) (omega (arith, at-live .live .ensures, at-if2 .if2 .left)) (inr (c .if4 .taken))
 
 list-marks-requires : tie.Need-list-marks-requires
@@ -73,7 +70,8 @@ list-marks-requires c κs =
     let at-if2 = at-if3 .before in
     let at-live = at-if2 .before in
     let at-count = at-live .before .before .before .before in
-    let start = at-count .before .before .before .before in (
+    let start = at-count .before .before .before .before .before in (
+      (at-count .before .capacity .ensures, rw (at-count .before .capacity .ensures) (start .pre .2)),
       start .pre .0,
       omega (arith, start .pre .1, at-live .live .ensures, at-if2 .if2 .left),
       at-if3 .if3 .left,
@@ -97,7 +95,7 @@ returns-5 c =
     let at-if1 = at-found .before in
     let at-visits = at-if1 .before in
     let at-count = at-visits .before in
-    list-lists _ _ _ _ _ _ _ _ (at-count .count .ensures) (at-visits .visits .ensures) (at-found .found .ensures)
+    list-lists _ _ _ _ _ _ _ _ (count-read _ _ (at-count .before .capacity .ensures) _ _ (at-count .count .ensures)) (at-visits .visits .ensures) (at-found .found .ensures)
     (at-if1 .if1 .left) (omega (arith, at-live .live .ensures, at-if2 .if2 .left)) _ _ _ (at-if3 .if3 .left)
     (at-if4 .if4 .left) (at-list-marks .list-marks .ensures)
 
@@ -105,6 +103,7 @@ pub list-own-spec : {M : Type 1} → statement M
 list-own-spec =
     tie.close
     (tie.spec
+    capacity-requires
     count-requires
     visits-requires
     returns

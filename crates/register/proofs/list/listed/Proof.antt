@@ -1,6 +1,6 @@
 -- `listed` meets its contract: a branch for each row, and the list from the table's own words. Assumes nothing.
 use Rattle.register.proofs.Branches.{list-not-table, list-crossed, list-own}
-use Rattle.register.proofs.Own.{own-fits, part-live}
+use Rattle.register.proofs.Own.{own-fits, part-live, part-room}
 use Rattle.table.proofs.Own.{own-visits-few}
 use Rattle.geometry.specs.Values.{boxOutcome}
 use native.Mathlib.Omega.{arith}
@@ -8,11 +8,6 @@ use mathlib.Core.Path.{sym, ap, _∙_}
 use borrow.Author.Needs.{needs}
 use Rattle.register.proofs.list.listed.Statement.{statement}
 use Rattle.register.proofs.list.listed.Tie as tie
-use Rattle.register.proofs.list.listed.Reads as reads
-use Rattle.register.proofs.list.listed.Lts as lts
-use Rattle.table.proofs.header.own.Reads as own-reads
-use Rattle.geometry.proofs.Box.new.Reads as new-reads
-use Rattle.register.proofs.list.list_own.Reads as list-own-reads
 
 own-requires : tie.Need-own-requires
 own-requires c κs = search needs
@@ -51,6 +46,7 @@ list-own-requires c κs =
     let t = at-start .args .table .now in (
       omega (arith, at-own .own .ensures .1, own-visits-few t),
       part-live t _ (at-own .own .ensures .0) (at-if1 .if1 .left),
+      part-room t _ (at-own .own .ensures .0) (at-if1 .if1 .left),
     )
 
 returns-2 : tie.Need-returns-2

@@ -3,9 +3,6 @@ use Rattle.register.proofs.Opening.{open-performs}
 use borrow.Author.Needs.{needs}
 use Rattle.register.proofs.open.open.Statement.{statement}
 use Rattle.register.proofs.open.open.Tie as tie
-use Rattle.register.proofs.open.open.Reads as reads
-use Rattle.register.proofs.open.open.Lts as lts
-use Rattle.register.proofs.open.opened.Reads as opened-reads
 
 -- src/open.rt:28:5
 opened-requires : tie.Need-opened-requires

@@ -1,14 +1,10 @@
-use Rattle.register.proofs.Own.{open-fits}
+use Rattle.register.proofs.Own.{open-fits, open-room}
 use Rattle.register.proofs.Branches.{open-refused, open-own}
 use Rattle.sizes.specs.Sizes.{openingOutcome}
 use mathlib.Core.Path.{sym, ap, _∙_}
 use borrow.Author.Needs.{needs}
 use Rattle.register.proofs.open.opened.Statement.{statement}
 use Rattle.register.proofs.open.opened.Tie as tie
-use Rattle.register.proofs.open.opened.Reads as reads
-use Rattle.register.proofs.open.opened.Lts as lts
-use Rattle.whole_table.proofs.empty.empty.Reads as empty-reads
-use Rattle.sizes.proofs.fit.Reads as fit-reads
 
 -- src/open.rt:15:11
 fit-requires : tie.Need-fit-requires
@@ -42,7 +38,10 @@ part-empty-end c =
 
 -- src/open.rt:19:13
 empty-requires : tie.Need-empty-requires
-empty-requires c κs = search needs
+empty-requires c κs =
+    let at-own = c .before .before in
+    let at-fit = at-own .before .before in
+    open-room _ _ _ (sym (at-fit .fit .ensures) ∙ ap openingOutcome (at-own .own .given .1))
 
 -- src/open.rt:12:1
 returns : tie.Need-returns

@@ -2,9 +2,6 @@ use Rattle.register.proofs.Updating.{strike-performs}
 use borrow.Author.Needs.{needs}
 use Rattle.register.proofs.strike.strike.Statement.{statement}
 use Rattle.register.proofs.strike.strike.Tie as tie
-use Rattle.register.proofs.strike.strike.Reads as reads
-use Rattle.register.proofs.strike.strike.Lts as lts
-use Rattle.register.proofs.strike.struck.Reads as struck-reads
 
 -- src/strike.rt:49:5
 struck-requires : tie.Need-struck-requires

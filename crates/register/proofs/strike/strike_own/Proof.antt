@@ -1,15 +1,12 @@
+use Rattle.register.proofs.Branches.{find-read}
 use borrow.Author.Needs.{needs}
 use Rattle.register.proofs.strike.strike_own.Statement.{statement}
 use borrow.Author.Tests.{eq-eqb, ne-eqb}
 use Rattle.register.specs.Mirrors.{settledAfter, strikeFound, strikeOwn♯}
 use Rattle.register.proofs.strike.strike_own.Tie as tie
-use Rattle.register.proofs.strike.strike_own.Reads as reads
-use Rattle.register.proofs.strike.strike_own.Lts as lts
-use Rattle.primary_search.proofs.find.find.Reads as find-reads
-use Rattle.register.proofs.update.close.Reads as close-reads
-use Rattle.register.proofs.update.settle.Reads as settle-reads
-use Rattle.table.proofs.header.capacity.Reads as capacity-reads
-use Rattle.whole_table.proofs.strike.strike.Reads as strike-reads
+
+capacity-requires : tie.Need-capacity-requires
+capacity-requires c κs = search needs
 
 -- src/strike.rt:27:9
 find-requires : tie.Need-find-requires
@@ -30,7 +27,7 @@ returns c =
     let at-close = c .before .before in
     let at-if1 = at-close .before .before in
     let at-find = at-if1 .before in
-    rw (← at-find .find .ensures, eq-eqb _ _ (at-if1 .if1 .taken), ← at-close .close .ensures)
+    rw (← find-read _ _ (at-find .before .before .capacity .ensures) _ _ (at-find .find .ensures), eq-eqb _ _ (at-if1 .if1 .taken), ← at-close .close .ensures)
 
 -- src/strike.rt:32:9
 same-length-2 : tie.Need-same-length-2
@@ -39,11 +36,7 @@ same-length-2 c = search needs
 -- src/strike.rt:32:9
 returns-2 : tie.Need-returns-2
 unfolding strikeOwn♯ strikeFound settledAfter
-returns-2 c = rw (← c .before .before .find .ensures, ne-eqb _ _ (c .before .if1 .left), eq-eqb _ _ (c .if2 .taken))
-
--- src/strike.rt:34:9
-capacity-requires : tie.Need-capacity-requires
-capacity-requires c κs = search needs
+returns-2 c = rw (← find-read _ _ (c .before .before .before .before .capacity .ensures) _ _ (c .before .before .find .ensures), ne-eqb _ _ (c .before .if1 .left), eq-eqb _ _ (c .if2 .taken))
 
 -- src/strike.rt:35:9
 strike-requires : tie.Need-strike-requires
@@ -63,15 +56,13 @@ unfolding strikeOwn♯ strikeFound settledAfter
 returns-3 c =
     let at-settle = c .before .before in
     let at-strike = at-settle .before .before .before .before in
-    let at-capacity = at-strike .before .before in
-    let at-if2 = at-capacity .before .before in
+    let at-if2 = at-strike .before .before in
     let at-if1 = at-if2 .before in
     let at-find = at-if1 .before in
-    simp (
-      ← at-find .find .ensures,
+    rw (
+      ← find-read _ _ (at-find .before .before .capacity .ensures) _ _ (at-find .find .ensures),
       ne-eqb _ _ (at-if1 .if1 .left),
       ne-eqb _ _ (at-if2 .if2 .left),
-      ← at-capacity .capacity .ensures,
       ← at-strike .strike .ensures,
       ← at-settle .settle .ensures,
     )
@@ -80,13 +71,13 @@ pub strike-own-spec : {M : Type 1} → statement M
 strike-own-spec =
     tie.close
     (tie.spec
+    capacity-requires
     find-requires
     close-requires
     same-length
     returns
     same-length-2
     returns-2
-    capacity-requires
     strike-requires
     settle-requires
     same-length-3

@@ -7,11 +7,6 @@ use Rattle.register.proofs.Branches.{update-not-table, update-outside, 
 use borrow.Author.Needs.{needs}
 use Rattle.register.proofs.strike.struck.Statement.{statement}
 use Rattle.register.proofs.strike.struck.Tie as tie
-use Rattle.register.proofs.strike.struck.Reads as reads
-use Rattle.register.proofs.strike.struck.Lts as lts
-use Rattle.table.proofs.header.own_words.Reads as own-words-reads
-use Rattle.geometry.proofs.Mark.new.Reads as new-reads
-use Rattle.register.proofs.strike.strike_own.Reads as strike-own-reads
 
 -- src/strike.rt:36:9
 own-words-requires : tie.Need-own-words-requires

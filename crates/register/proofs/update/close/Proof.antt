@@ -2,9 +2,6 @@ use Rattle.register.specs.Mirrors.{closed♯}
 use borrow.Author.Needs.{needs}
 use Rattle.register.proofs.update.close.Statement.{statement}
 use Rattle.register.proofs.update.close.Tie as tie
-use Rattle.register.proofs.update.close.Reads as reads
-use Rattle.register.proofs.update.close.Lts as lts
-use Rattle.table.proofs.header.put_open.Reads as put-open-reads
 
 -- src/update.rt:14:5
 put-open-requires : tie.Need-put-open-requires

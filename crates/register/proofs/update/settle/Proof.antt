@@ -3,10 +3,6 @@ use borrow.Author.Tests.{eq-eqb, ne-eqb}
 use borrow.Author.Needs.{needs}
 use Rattle.register.proofs.update.settle.Statement.{statement}
 use Rattle.register.proofs.update.settle.Tie as tie
-use Rattle.register.proofs.update.settle.Reads as reads
-use Rattle.register.proofs.update.settle.Lts as lts
-use Rattle.register.proofs.update.close.Reads as close-reads
-use Rattle.table.proofs.header.live.Reads as live-reads
 
 -- src/update.rt:23:9
 close-requires : tie.Need-close-requires

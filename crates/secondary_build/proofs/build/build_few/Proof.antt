@@ -6,12 +6,6 @@ use Prim.Native.Nat.{ℕ, _≤_, _<_}
 use mathlib.Core.Path.{_≡_}
 use native.Mathlib.Omega.{arith}
 use Rattle.secondary_build.proofs.build.build_few.Tie as tie
-use Rattle.secondary_build.proofs.build.build_few.Reads as reads
-use Rattle.secondary_build.proofs.build.build_few.Lts as lts
-use Rattle.secondary_build.proofs.build.build_two.Reads as build-two-reads
-use Rattle.secondary_build.proofs.build.leaf.Reads as leaf-reads
-use Rattle.secondary_build.proofs.build.make_node.Reads as make-node-reads
-use Rattle.table.proofs.runs.run_slot.Reads as run-slot-reads
 
 three : (n : ℕ) → 1 < n → n ≤ 3 → (n ≡ 2 → ⊥) → n ≡ 3
 three n h k e = omega (arith, e)

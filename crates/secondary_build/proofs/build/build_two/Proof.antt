@@ -2,11 +2,6 @@ use borrow.Author.Needs.{needs}
 use Rattle.secondary_build.proofs.build.build_two.Statement.{statement}
 use Rattle.secondary_build.proofs.Few.{build♯-two}
 use Rattle.secondary_build.proofs.build.build_two.Tie as tie
-use Rattle.secondary_build.proofs.build.build_two.Reads as reads
-use Rattle.secondary_build.proofs.build.build_two.Lts as lts
-use Rattle.secondary_build.proofs.build.leaf.Reads as leaf-reads
-use Rattle.secondary_build.proofs.build.make_node.Reads as make-node-reads
-use Rattle.table.proofs.runs.run_slot.Reads as run-slot-reads
 
 -- src/build.rt:39:9
 leaf-requires : tie.Need-leaf-requires

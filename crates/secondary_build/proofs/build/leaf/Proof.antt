@@ -2,11 +2,6 @@ use borrow.Author.Needs.{needs}
 use Rattle.secondary_build.proofs.build.leaf.Statement.{statement}
 use Rattle.secondary_build.specs.Build.{runLeaf}
 use Rattle.secondary_build.proofs.build.leaf.Tie as tie
-use Rattle.secondary_build.proofs.build.leaf.Reads as reads
-use Rattle.secondary_build.proofs.build.leaf.Lts as lts
-use Rattle.nodes.proofs.secondary.SecondaryArm.leaf.Reads as leaf-reads
-use Rattle.table.proofs.runs.run_slot.Reads as run-slot-reads
-use Rattle.table.proofs.slots.load.Reads as load-reads
 
 -- src/build.rt:21:9
 run-slot-requires : tie.Need-run-slot-requires

@@ -2,11 +2,6 @@ use borrow.Author.Needs.{needs}
 use Rattle.secondary_build.proofs.build.make_node.Statement.{statement}
 use Rattle.secondary_build.specs.Build.{buildOver}
 use Rattle.secondary_build.proofs.build.make_node.Tie as tie
-use Rattle.secondary_build.proofs.build.make_node.Reads as reads
-use Rattle.secondary_build.proofs.build.make_node.Lts as lts
-use Rattle.nodes.proofs.secondary.SecondaryArm.over.Reads as over-reads
-use Rattle.nodes.proofs.secondary.SecondaryRecord.store.Reads as store-reads
-use Rattle.nodes.proofs.secondary.SecondaryRecord.put.Reads as put-reads
 
 -- src/build.rt:31:5
 store-requires : tie.Need-store-requires

@@ -4,11 +4,6 @@ use borrow.Author.Needs.{needs}
 use Rattle.secondary_build.proofs.build.rebuild.Statement.{statement}
 use Rattle.secondary_build.specs.Build.{rebuildRun, rebuild♯}
 use Rattle.secondary_build.proofs.build.rebuild.Tie as tie
-use Rattle.secondary_build.proofs.build.rebuild.Reads as reads
-use Rattle.secondary_build.proofs.build.rebuild.Lts as lts
-use Rattle.nodes.proofs.secondary.Secondary.gather.Reads as gather-reads
-use Rattle.nodes.proofs.secondary.SecondaryArm.none.Reads as none-reads
-use Rattle.secondary_build.proofs.build.build.Reads as build-reads
 
 -- src/build.rt:87:8
 gather-requires : tie.Need-gather-requires

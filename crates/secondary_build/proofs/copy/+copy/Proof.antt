@@ -13,8 +13,6 @@ use Rattle.nodes.proofs.secondary.Secondary.is_leaf.Reads as is-leaf-reads
 use Rattle.nodes.proofs.secondary.Secondary.slot.Reads as slot-reads
 use Rattle.nodes.proofs.secondary.SecondaryRecord.load.Reads as load-reads
 use Rattle.nodes.proofs.secondary.SecondaryRecord.store.Reads as store-reads
-use Rattle.nodes.proofs.secondary.SecondaryRecord.at.Reads as at-reads
-use Rattle.nodes.proofs.secondary.SecondaryRecord.put.Reads as put-reads
 
 abbrev μ-copy : Measures 1 copy-kinds.ps ℕ
 μ-copy κs a = a .1 .1 .1 .1 .1 .0

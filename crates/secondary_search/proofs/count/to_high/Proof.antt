@@ -1,51 +1,44 @@
--- The loop keeps: left ≤ deepest; highFrom of left, node, tally is that of deepest, node₀, from. What falls: left.
-use Prim.Native.Nat.{ℕ, _<_, _≤_}
+-- The loop keeps: left ≤ deepest; highFrom of left, node, tally is that of deepest, node₀, tally₀. What falls: left.
+use Rattle.secondary_search.proofs.count.to_high.Statement.{statement}
+use Prim.Native.Nat.{_≤_}
 use mathlib.Core.Path.{_≡_}
 use native.Mathlib.Omega.{arith}
 use borrow.Author.Needs.{needs}
 use Rattle.model.specs.Sheet.{alongY}
 use Rattle.geometry.specs.Values.{boxValue}
 use Rattle.table.specs.Limits.{deepest}
-use Rattle.nodes.proofs.Missing.{present}
 use Rattle.nodes.specs.Count.{sideAlong, highRecord, highNode, highFrom, highFrom-zero, highFrom-suc}
 use Rattle.table.proofs.Fuel.{positive, nothing}
 use Rattle.secondary_search.specs.Count.{auxiliaryKind}
-use Rattle.secondary_search.proofs.count.to_high.Statement.{statement}
+use borrow.Author.Tests.{le-leb, lt-leb}
 use Rattle.secondary_search.proofs.count.to_high.Tie as tie
-use Rattle.secondary_search.proofs.count.to_high.Reads as reads
-use Rattle.secondary_search.proofs.count.to_high.Lts as lts
-use Rattle.geometry.proofs.Box.past_y.Reads as past-y-reads
-use Rattle.nodes.proofs.secondary.Secondary.slot.Reads as slot-reads
-use Rattle.nodes.proofs.secondary.SecondaryRecord.is_missing.Reads as is-missing-reads
-use Rattle.nodes.proofs.secondary.SecondaryRecord.load.Reads as load-reads
-use Rattle.table.proofs.tally.visit.Reads as visit-reads
 
 abbrev Inv-loop : tie.InvT-loop
-Inv-loop t base b from node₀ tally₀ left₀ node tally left =
+Inv-loop t base capacity b node₀ tally₀ left₀ node tally left =
     (left ≤ deepest) ×
-    (highFrom auxiliaryKind (sideAlong alongY (boxValue b)) t left base (node .0) tally ≡
-    highFrom auxiliaryKind (sideAlong alongY (boxValue b)) t deepest base (node₀ .0) from)
+    (highFrom auxiliaryKind (sideAlong alongY (boxValue b)) capacity t left base (node .0) (tally .0) ≡
+    highFrom auxiliaryKind (sideAlong alongY (boxValue b)) capacity t deepest base (node₀ .0) (tally₀ .0))
 
 abbrev μ-loop : tie.MeasureT-loop
-μ-loop t base b from node₀ tally₀ left₀ node tally left = left
+μ-loop t base capacity b node₀ tally₀ left₀ node tally left = left
 
--- src/count.rt:55:5
+-- src/count.rt:60:5
 loop-holds : tie.Need-loop-holds Inv-loop μ-loop
 loop-holds c = search needs
 
--- src/count.rt:56:9
+-- src/count.rt:61:9
 sub-left : tie.Need-sub-left Inv-loop μ-loop
 sub-left c = search needs
 
--- src/count.rt:57:13
+-- src/count.rt:62:13
 slot-requires : tie.Need-slot-requires Inv-loop μ-loop
 slot-requires c κs = search needs
 
--- src/count.rt:58:12
-is-missing-requires : tie.Need-is-missing-requires Inv-loop μ-loop
-is-missing-requires c κs = search needs
+-- src/count.rt:64:13
+lost-requires : tie.Need-lost-requires Inv-loop μ-loop
+lost-requires c κs = search needs
 
--- src/count.rt:59:13
+-- src/count.rt:64:13
 returns : tie.Need-returns Inv-loop μ-loop
 unfolding highNode highRecord
 returns c =
@@ -54,113 +47,109 @@ returns c =
     let at-loop = at-loop-test .before in
     rw (
       ← at-loop .loop .inv .1,
-      highFrom-suc auxiliaryKind _ _ _ (positive _ (at-loop-test .loop-test .taken)),
+      highFrom-suc auxiliaryKind _ _ _ _ (positive _ (at-loop-test .loop-test .taken)),
       ← at-slot .slot .ensures,
-      ← c .before .is-missing .ensures,
-      c .if1 .taken,
+      le-leb _ _ (c .before .if1 .taken),
+      ← c .lost .ensures,
     )
 
--- src/count.rt:61:13
+-- src/count.rt:66:13
 load-requires : tie.Need-load-requires Inv-loop μ-loop
-load-requires c κs = present _ _ _ (c .before .is-missing .ensures) (c .if1 .left)
+load-requires c κs = search (needs, c .if1 .left)
 
--- src/count.rt:66:12
+-- src/count.rt:71:12
 past-y-requires : tie.Need-past-y-requires Inv-loop μ-loop
 past-y-requires c κs = search needs
 
--- src/count.rt:67:13
-visit-requires : tie.Need-visit-requires Inv-loop μ-loop
-visit-requires c κs = search needs
+-- src/count.rt:72:13
+past-requires : tie.Need-past-requires Inv-loop μ-loop
+past-requires c κs = search needs
 
--- src/count.rt:68:16
+-- src/count.rt:73:16
 past-y-requires-2 : tie.Need-past-y-requires-2 Inv-loop μ-loop
 past-y-requires-2 c κs = search needs
 
--- src/count.rt:69:17
-visit-requires-2 : tie.Need-visit-requires-2 Inv-loop μ-loop
-visit-requires-2 c κs = search needs
+-- src/count.rt:74:17
+visit-requires : tie.Need-visit-requires Inv-loop μ-loop
+visit-requires c κs = search needs
 
--- src/count.rt:55:5
+-- src/count.rt:60:5
 loop-less : tie.Need-loop-less Inv-loop μ-loop
 loop-less c = search needs
 
--- src/count.rt:55:5
+-- src/count.rt:60:5
 loop-again : tie.Need-loop-again Inv-loop μ-loop
 unfolding highNode highRecord
 loop-again c =
     let at-past-y2 = c .before .before in
-    let at-visit = at-past-y2 .before in
-    let at-if2 = at-visit .before in
+    let at-past = at-past-y2 .before in
+    let at-if2 = at-past .before in
     let at-past-y = at-if2 .before in
     let at-load = at-past-y .before .before .before .before .before in
     let at-if1 = at-load .before in
-    let at-is-missing = at-if1 .before in
-    let at-slot = at-is-missing .before in
+    let at-slot = at-if1 .before in
     let at-loop-test = at-slot .before in
     let at-loop = at-loop-test .before in (
       omega (arith, at-loop .loop .inv .0),
       rw (
         ← at-loop .loop .inv .1,
-        highFrom-suc auxiliaryKind _ _ _ (positive _ (at-loop-test .loop-test .taken)),
+        highFrom-suc auxiliaryKind _ _ _ _ (positive _ (at-loop-test .loop-test .taken)),
         ← at-slot .slot .ensures,
-        ← at-is-missing .is-missing .ensures,
-        at-if1 .if1 .left,
+        lt-leb _ _ (at-if1 .if1 .left),
         ← at-load .load .ensures,
         ← at-past-y .past-y .ensures,
         at-if2 .if2 .taken,
-        ← at-visit .visit .ensures,
+        ← at-past .past .ensures,
         ← at-past-y2 .past-y2 .ensures,
         c .before .if3 .taken,
-        ← c .visit2 .ensures,
+        ← c .visit .ensures,
       ),
     )
 
--- src/count.rt:72:17
-visit-requires-3 : tie.Need-visit-requires-3 Inv-loop μ-loop
-visit-requires-3 c κs = search needs
+-- src/count.rt:77:17
+take-requires : tie.Need-take-requires Inv-loop μ-loop
+take-requires c κs = search needs
 
--- src/count.rt:72:17
+-- src/count.rt:77:17
 returns-2 : tie.Need-returns-2 Inv-loop μ-loop
 unfolding highNode highRecord
 returns-2 c =
     let at-past-y2 = c .before .before in
-    let at-visit = at-past-y2 .before in
-    let at-if2 = at-visit .before in
+    let at-past = at-past-y2 .before in
+    let at-if2 = at-past .before in
     let at-past-y = at-if2 .before in
     let at-load = at-past-y .before .before .before .before .before in
     let at-if1 = at-load .before in
-    let at-is-missing = at-if1 .before in
-    let at-slot = at-is-missing .before in
+    let at-slot = at-if1 .before in
     let at-loop-test = at-slot .before in
     let at-loop = at-loop-test .before in
     rw (
       ← at-loop .loop .inv .1,
-      highFrom-suc auxiliaryKind _ _ _ (positive _ (at-loop-test .loop-test .taken)),
+      highFrom-suc auxiliaryKind _ _ _ _ (positive _ (at-loop-test .loop-test .taken)),
       ← at-slot .slot .ensures,
-      ← at-is-missing .is-missing .ensures,
-      at-if1 .if1 .left,
+      lt-leb _ _ (at-if1 .if1 .left),
       ← at-load .load .ensures,
       ← at-past-y .past-y .ensures,
       at-if2 .if2 .taken,
-      ← at-visit .visit .ensures,
+      ← at-past .past .ensures,
       ← at-past-y2 .past-y2 .ensures,
       c .before .if3 .left,
-      ← c .visit3 .ensures,
+      ← c .take .ensures,
     )
 
--- src/count.rt:75:34
-visit-requires-4 : tie.Need-visit-requires-4 Inv-loop μ-loop
-visit-requires-4 c κs = search needs
+-- src/count.rt:80:21
+take-requires-2 : tie.Need-take-requires-2 Inv-loop μ-loop
+take-requires-2 c κs = search needs
 
--- src/count.rt:75:13
-visit-requires-5 : tie.Need-visit-requires-5 Inv-loop μ-loop
-visit-requires-5 c κs = search needs
+-- src/count.rt:80:13
+visit-requires-2 : tie.Need-visit-requires-2 Inv-loop μ-loop
+visit-requires-2 c κs = search needs
 
--- src/count.rt:55:5
+-- src/count.rt:60:5
 loop-less-2 : tie.Need-loop-less-2 Inv-loop μ-loop
 loop-less-2 c = search needs
 
--- src/count.rt:55:5
+-- src/count.rt:60:5
 loop-again-2 : tie.Need-loop-again-2 Inv-loop μ-loop
 unfolding highNode highRecord
 loop-again-2 c =
@@ -168,29 +157,35 @@ loop-again-2 c =
     let at-past-y = at-if2 .before in
     let at-load = at-past-y .before .before .before .before .before in
     let at-if1 = at-load .before in
-    let at-is-missing = at-if1 .before in
-    let at-slot = at-is-missing .before in
+    let at-slot = at-if1 .before in
     let at-loop-test = at-slot .before in
     let at-loop = at-loop-test .before in (
       omega (arith, at-loop .loop .inv .0),
       rw (
         ← at-loop .loop .inv .1,
-        highFrom-suc auxiliaryKind _ _ _ (positive _ (at-loop-test .loop-test .taken)),
+        highFrom-suc auxiliaryKind _ _ _ _ (positive _ (at-loop-test .loop-test .taken)),
         ← at-slot .slot .ensures,
-        ← at-is-missing .is-missing .ensures,
-        at-if1 .if1 .left,
+        lt-leb _ _ (at-if1 .if1 .left),
         ← at-load .load .ensures,
         ← at-past-y .past-y .ensures,
         at-if2 .if2 .left,
-        ← c .before .visit4 .ensures,
-        ← c .visit5 .ensures,
+        ← c .before .take2 .ensures,
+        ← c .visit2 .ensures,
       ),
     )
 
--- src/count.rt:49:1
+-- src/count.rt:84:5
+lost-requires-2 : tie.Need-lost-requires-2 Inv-loop μ-loop
+lost-requires-2 c κs = search needs
+
+-- src/count.rt:53:1
 returns-3 : tie.Need-returns-3 Inv-loop μ-loop
 unfolding highNode highRecord
-returns-3 c = rw (← c .before .loop .inv .1, highFrom-zero auxiliaryKind _ _ _ (nothing _ (c .loop-test .left)))
+returns-3 c = rw (
+  ← c .before .before .loop .inv .1,
+  highFrom-zero auxiliaryKind _ _ _ _ (nothing _ (c .before .loop-test .left)),
+  ← c .lost2 .ensures,
+)
 
 pub to-high-spec : {M : Type 1} → statement M
 to-high-spec =
@@ -201,19 +196,20 @@ to-high-spec =
     loop-holds
     sub-left
     slot-requires
-    is-missing-requires
+    lost-requires
     returns
     load-requires
     past-y-requires
-    visit-requires
+    past-requires
     past-y-requires-2
-    visit-requires-2
+    visit-requires
     loop-less
     loop-again
-    visit-requires-3
+    take-requires
     returns-2
-    visit-requires-4
-    visit-requires-5
+    take-requires-2
+    visit-requires-2
     loop-less-2
     loop-again-2
+    lost-requires-2
     returns-3)

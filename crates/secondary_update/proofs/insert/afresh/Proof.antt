@@ -3,11 +3,6 @@ use Rattle.secondary_update.proofs.insert.afresh.Statement.{statement}
 use Rattle.secondary_update.specs.Insert.{afresh♯, rebuiltAt, putFresh}
 use borrow.Author.Tests.{eq-eqb, ne-eqb}
 use Rattle.secondary_update.proofs.insert.afresh.Tie as tie
-use Rattle.secondary_update.proofs.insert.afresh.Reads as reads
-use Rattle.secondary_update.proofs.insert.afresh.Lts as lts
-use Rattle.secondary_build.proofs.build.rebuild.Reads as rebuild-reads
-use Rattle.nodes.proofs.secondary.SecondaryArm.load.Reads as load-reads
-use Rattle.nodes.proofs.secondary.SecondaryArm.store.Reads as store-reads
 
 -- src/insert.rt:68:9
 returns : tie.Need-returns

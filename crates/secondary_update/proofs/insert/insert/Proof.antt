@@ -2,12 +2,8 @@ use borrow.Author.Needs.{needs}
 use native.Mathlib.Omega.{arith}
 use borrow.Author.Tests.{lt-ltb, le-ltb}
 use Rattle.secondary_update.specs.Insert.{auxiliaryInsert♯}
-use Rattle.nodes.proofs.primary.PrimaryRecord.auxiliary_place.Reads as auxiliary-place-reads
 use Rattle.secondary_update.proofs.insert.insert.Statement.{statement}
 use Rattle.secondary_update.proofs.insert.insert.Tie as tie
-use Rattle.secondary_update.proofs.insert.insert.Reads as reads
-use Rattle.secondary_update.proofs.insert.insert.Lts as lts
-use Rattle.secondary_update.proofs.insert.insert_beneath.Reads as insert-beneath-reads
 
 mul-if1 : tie.Need-mul-if1
 mul-if1 c = search needs

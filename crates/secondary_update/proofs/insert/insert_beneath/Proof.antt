@@ -16,21 +16,6 @@ use native.Mathlib.Omega.{arith}
 use Rattle.table.proofs.Fuel.{positive, nothing}
 use Rattle.secondary_update.proofs.Steps.{child-there, ended, ended-damaged, was-mending}
 use Rattle.secondary_update.proofs.insert.insert_beneath.Tie as tie
-use Rattle.secondary_update.proofs.insert.insert_beneath.Reads as reads
-use Rattle.secondary_update.proofs.insert.insert_beneath.Lts as lts
-use Rattle.geometry.proofs.Mark.below_y.Reads as below-y-reads
-use Rattle.nodes.proofs.secondary.Secondary.is_leaf.Reads as is-leaf-reads
-use Rattle.nodes.proofs.secondary.Secondary.slot.Reads as slot-reads
-use Rattle.nodes.proofs.secondary.SecondaryArm.grown.Reads as grown-reads
-use Rattle.nodes.proofs.secondary.SecondaryRecord.load.Reads as load-reads
-use Rattle.nodes.proofs.secondary.SecondaryArm.load.Reads as arm-load-reads
-use Rattle.table.proofs.slots.load.Reads as mark-load-reads
-use Rattle.nodes.proofs.secondary.SecondaryArm.store.Reads as arm-store-reads
-use Rattle.secondary_update.proofs.insert.afresh.Reads as afresh-reads
-use Rattle.nodes.proofs.secondary.SecondaryRecord.child.Reads as child-reads
-use Rattle.secondary_update.proofs.insert.split.Reads as split-reads
-use Rattle.nodes.proofs.weights.unbalances.Reads as unbalances-reads
-use Rattle.nodes.proofs.weights.disagree.Reads as disagree-reads
 
 abbrev Inv-loop : tie.InvT-loop
 Inv-loop t₀ base capacity start m s at₀ mends₀ top₀ left₀ t at mends top left =

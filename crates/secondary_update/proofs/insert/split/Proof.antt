@@ -3,15 +3,6 @@ use native.Mathlib.Omega.{arith}
 use Rattle.secondary_update.proofs.insert.split.Statement.{statement}
 use Rattle.secondary_update.specs.Insert.{nodeAt, split♯}
 use Rattle.secondary_update.proofs.insert.split.Tie as tie
-use Rattle.secondary_update.proofs.insert.split.Reads as reads
-use Rattle.secondary_update.proofs.insert.split.Lts as lts
-use Rattle.geometry.proofs.Mark.below_y.Reads as below-y-reads
-use Rattle.nodes.proofs.secondary.Secondary.slot.Reads as slot-reads
-use Rattle.nodes.proofs.secondary.SecondaryArm.leaf.Reads as leaf-reads
-use Rattle.nodes.proofs.secondary.SecondaryArm.over.Reads as over-reads
-use Rattle.table.proofs.slots.load.Reads as mark-load-reads
-use Rattle.nodes.proofs.secondary.SecondaryArm.store.Reads as arm-store-reads
-use Rattle.nodes.proofs.secondary.SecondaryRecord.store.Reads as record-store-reads
 
 leaf-requires : tie.Need-leaf-requires
 leaf-requires c κs = search needs

@@ -1,9 +1,6 @@
 use borrow.Author.Needs.{needs}
 use Rattle.secondary_update.proofs.strike.damaged.Statement.{statement}
 use Rattle.secondary_update.proofs.strike.damaged.Tie as tie
-use Rattle.secondary_update.proofs.strike.damaged.Reads as reads
-use Rattle.secondary_update.proofs.strike.damaged.Lts as lts
-use Rattle.nodes.proofs.secondary.SecondaryArm.none.Reads as none-reads
 
 -- src/strike.rt:46:9
 none-requires : tie.Need-none-requires

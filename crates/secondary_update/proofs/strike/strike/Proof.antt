@@ -3,11 +3,6 @@ use Rattle.secondary_update.proofs.strike.strike.Statement.{statement}
 use Rattle.secondary_update.specs.Strike.{auxiliaryStrike♯, strikeFrom}
 use borrow.Author.Tests.{le-ltb, lt-ltb}
 use Rattle.secondary_update.proofs.strike.strike.Tie as tie
-use Rattle.secondary_update.proofs.strike.strike.Reads as reads
-use Rattle.secondary_update.proofs.strike.strike.Lts as lts
-use Rattle.nodes.proofs.primary.PrimaryRecord.load_auxiliary.Reads as load-auxiliary-reads
-use Rattle.secondary_update.proofs.strike.damaged.Reads as damaged-reads
-use Rattle.secondary_update.proofs.strike.strike_beneath.Reads as strike-beneath-reads
 
 -- src/strike.rt:153:36
 mul-if1 : tie.Need-mul-if1

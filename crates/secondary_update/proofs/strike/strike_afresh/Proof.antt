@@ -2,12 +2,6 @@ use borrow.Author.Needs.{needs}
 use Rattle.secondary_update.proofs.strike.strike_afresh.Statement.{statement}
 use Rattle.secondary_update.specs.Strike.{freshStrike, strikeAfresh}
 use Rattle.secondary_update.proofs.strike.strike_afresh.Tie as tie
-use Rattle.secondary_update.proofs.strike.strike_afresh.Reads as reads
-use Rattle.secondary_update.proofs.strike.strike_afresh.Lts as lts
-use Rattle.nodes.proofs.weights.fewer.Reads as fewer-reads
-use Rattle.secondary_build.proofs.build.rebuild.Reads as rebuild-reads
-use Rattle.secondary_update.proofs.strike.answer.Reads as answer-reads
-use Rattle.table.proofs.runs.run_slot.Reads as run-slot-reads
 
 -- src/strike.rt:83:9
 fewer-requires : tie.Need-fewer-requires

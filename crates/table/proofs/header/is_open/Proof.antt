@@ -1,9 +1,6 @@
 use borrow.Author.Needs.{needs}
 use Rattle.table.proofs.header.is_open.Statement.{statement}
 use Rattle.table.proofs.header.is_open.Tie as tie
-use Rattle.table.proofs.header.is_open.Reads as reads
-use Rattle.table.proofs.header.is_open.Lts as lts
-use Rattle.table.proofs.words.word.Reads as word-reads
 
 -- src/header.rt:12:5
 word-requires : tie.Need-word-requires

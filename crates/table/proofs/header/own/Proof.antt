@@ -6,12 +6,6 @@ use Rattle.table.specs.Header.{notTable, ownWords, ownVisits}
 use Rattle.table.proofs.Own.{own-words, own-visits}
 use Rattle.table.proofs.header.own.Statement.{statement}
 use Rattle.table.proofs.header.own.Tie as tie
-use Rattle.table.proofs.header.own.Reads as reads
-use Rattle.table.proofs.header.own.Lts as lts
-use Rattle.sizes.proofs.size_for.Reads as size-for-reads
-use Rattle.table.proofs.header.capacity.Reads as capacity-reads
-use Rattle.table.proofs.header.is_open.Reads as is-open-reads
-use Rattle.table.proofs.header.live.Reads as live-reads
 
 returns : tie.Need-returns
 unfolding ownWords ownVisits notTable

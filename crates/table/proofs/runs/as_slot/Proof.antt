@@ -3,8 +3,6 @@ use Rattle.table.specs.Runs.{asSlot}
 use borrow.Author.Tests.{le-ltb, lt-ltb}
 use borrow.Author.Needs.{needs}
 use Rattle.table.proofs.runs.as_slot.Tie as tie
-use Rattle.table.proofs.runs.as_slot.Reads as reads
-use Rattle.table.proofs.runs.as_slot.Lts as lts
 
 -- src/runs.rt:110:9
 returns : tie.Need-returns

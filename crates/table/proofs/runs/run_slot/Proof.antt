@@ -2,10 +2,6 @@ use borrow.Author.Needs.{needs}
 use Rattle.table.proofs.runs.run_slot.Statement.{statement}
 use Rattle.table.specs.Runs.{runSlot}
 use Rattle.table.proofs.runs.run_slot.Tie as tie
-use Rattle.table.proofs.runs.run_slot.Reads as reads
-use Rattle.table.proofs.runs.run_slot.Lts as lts
-use Rattle.table.proofs.runs.as_slot.Reads as as-slot-reads
-use Rattle.table.proofs.runs.load_run.Reads as load-run-reads
 
 -- src/runs.rt:121:23
 load-run-requires : tie.Need-load-run-requires

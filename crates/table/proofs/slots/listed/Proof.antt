@@ -2,9 +2,6 @@ use borrow.Author.Needs.{needs}
 use Rattle.table.proofs.slots.listed.Statement.{statement}
 use Rattle.table.specs.Marks.{listMark}
 use Rattle.table.proofs.slots.listed.Tie as tie
-use Rattle.table.proofs.slots.listed.Reads as reads
-use Rattle.table.proofs.slots.listed.Lts as lts
-use Rattle.table.proofs.slots.read_mark.Reads as read-mark-reads
 
 -- src/slots.rt:35:21
 mul-read-mark : tie.Need-mul-read-mark

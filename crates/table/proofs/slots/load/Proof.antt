@@ -3,8 +3,6 @@ use Rattle.table.specs.Marks.{slotMark, markAt}
 use borrow.Author.Needs.{needs}
 use Rattle.table.proofs.slots.load.Statement.{statement}
 use Rattle.table.proofs.slots.load.Tie as tie
-use Rattle.table.proofs.slots.load.Reads as reads
-use Rattle.table.proofs.slots.load.Lts as lts
 
 -- src/slots.rt:38:31
 mul-at : tie.Need-mul-at

@@ -7,8 +7,6 @@ use Rattle.table.specs.Marks.{putMark}
 use lib.ListN.{length-set}
 use native.Mathlib.Omega.{arith}
 use Rattle.table.proofs.slots.put_mark.Tie as tie
-use Rattle.table.proofs.slots.put_mark.Reads as reads
-use Rattle.table.proofs.slots.put_mark.Lts as lts
 
 -- src/slots.rt:29:8
 add-if1 : tie.Need-add-if1

@@ -3,8 +3,6 @@ use Rattle.table.proofs.slots.read_mark.Statement.{statement}
 use borrow.Author.Tests.{le-leb, lt-leb}
 use Rattle.table.specs.Marks.{markAt}
 use Rattle.table.proofs.slots.read_mark.Tie as tie
-use Rattle.table.proofs.slots.read_mark.Reads as reads
-use Rattle.table.proofs.slots.read_mark.Lts as lts
 
 -- src/slots.rt:13:8
 add-if1 : tie.Need-add-if1

@@ -2,8 +2,6 @@ use Rattle.table.proofs.words.greater.Statement.{statement}
 use Rattle.table.specs.Words.{greater}
 use borrow.Author.Tests.{le-ltb, lt-ltb}
 use Rattle.table.proofs.words.greater.Tie as tie
-use Rattle.table.proofs.words.greater.Reads as reads
-use Rattle.table.proofs.words.greater.Lts as lts
 
 -- src/weights.rt:50:1
 returns : tie.Need-returns

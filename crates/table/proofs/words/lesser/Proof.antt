@@ -2,8 +2,6 @@ use Rattle.table.proofs.words.lesser.Statement.{statement}
 use borrow.Author.Tests.{le-ltb, lt-ltb}
 use Rattle.table.specs.Words.{lesser}
 use Rattle.table.proofs.words.lesser.Tie as tie
-use Rattle.table.proofs.words.lesser.Reads as reads
-use Rattle.table.proofs.words.lesser.Lts as lts
 
 -- src/weights.rt:44:1
 returns : tie.Need-returns

@@ -3,8 +3,6 @@ use Rattle.table.proofs.words.put_word.Statement.{statement}
 use lib.Seq.{set-out}
 use mathlib.Core.Path.{sym}
 use Rattle.table.proofs.words.put_word.Tie as tie
-use Rattle.table.proofs.words.put_word.Reads as reads
-use Rattle.table.proofs.words.put_word.Lts as lts
 
 -- src/words.rt:16:9
 mul-t : tie.Need-mul-t

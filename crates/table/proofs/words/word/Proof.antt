@@ -3,8 +3,6 @@ use Rattle.table.proofs.words.word.Statement.{statement}
 use lib.ListN.{List·getD-eq-default}
 use mathlib.Core.Path.{sym}
 use Rattle.table.proofs.words.word.Tie as tie
-use Rattle.table.proofs.words.word.Reads as reads
-use Rattle.table.proofs.words.word.Lts as lts
 
 -- src/words.rt:9:22
 mul-result : tie.Need-mul-result

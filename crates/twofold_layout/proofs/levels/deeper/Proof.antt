@@ -2,8 +2,6 @@ use borrow.Author.Needs.{needs}
 use Rattle.twofold_layout.proofs.levels.deeper.Statement.{statement}
 use Rattle.twofold_layout.specs.Levels.{deeper}
 use Rattle.twofold_layout.proofs.levels.deeper.Tie as tie
-use Rattle.twofold_layout.proofs.levels.deeper.Reads as reads
-use Rattle.twofold_layout.proofs.levels.deeper.Lts as lts
 
 -- src/levels.rt:16:23
 mul-result : tie.Need-mul-result

@@ -2,8 +2,6 @@ use borrow.Author.Needs.{needs}
 use Rattle.twofold_layout.proofs.levels.top.Statement.{statement}
 use Rattle.twofold_layout.specs.Levels.{topLevel}
 use Rattle.twofold_layout.proofs.levels.top.Tie as tie
-use Rattle.twofold_layout.proofs.levels.top.Reads as reads
-use Rattle.twofold_layout.proofs.levels.top.Lts as lts
 
 -- src/levels.rt:9:12
 mul-result : tie.Need-mul-result

@@ -2,14 +2,6 @@ use borrow.Author.Needs.{needs}
 use Rattle.whole_table.proofs.empty.empty.Statement.{statement}
 use Rattle.whole_table.specs.Empty.{empty♯}
 use Rattle.whole_table.proofs.empty.empty.Tie as tie
-use Rattle.whole_table.proofs.empty.empty.Reads as reads
-use Rattle.whole_table.proofs.empty.empty.Lts as lts
-use Rattle.whole_table.proofs.empty.free_slots.Reads as free-slots-reads
-use Rattle.table.proofs.header.put_capacity.Reads as put-capacity-reads
-use Rattle.table.proofs.header.put_live.Reads as put-live-reads
-use Rattle.table.proofs.header.put_open.Reads as put-open-reads
-use Rattle.nodes.proofs.primary.PrimaryArm.none.Reads as none-reads
-use Rattle.nodes.proofs.primary.PrimaryArm.put.Reads as put-reads
 
 -- src/empty.rt:24:5
 free-slots-requires : tie.Need-free-slots-requires
@@ -28,8 +20,8 @@ none-requires : tie.Need-none-requires
 none-requires c κs = search needs
 
 -- src/empty.rt:27:5
-put-requires : tie.Need-put-requires
-put-requires c κs = search needs
+store-requires : tie.Need-store-requires
+store-requires c κs = search needs
 
 -- src/empty.rt:28:5
 put-open-requires : tie.Need-put-open-requires
@@ -42,7 +34,7 @@ same-length c = search needs
 -- src/empty.rt:21:1
 returns : tie.Need-returns
 unfolding empty♯
-returns c = rw (← c .before .before .before .before .before .before .before .before .before .before .before .before .before .before .before .before .before .before .before .free-slots .ensures, ← c .before .before .before .before .before .before .before .before .before .before .before .before .before .before .before .put-capacity .ensures, ← c .before .before .before .before .before .before .before .before .before .before .before .put-live .ensures, ← c .before .before .before .before .before .before .before .none .ensures, ← c .before .before .before .before .before .before .put .ensures, ← c .before .before .put-open .ensures)
+returns c = rw (← c .before .before .before .before .before .before .before .before .before .before .before .before .before .before .before .before .before .before .before .free-slots .ensures, ← c .before .before .before .before .before .before .before .before .before .before .before .before .before .before .before .put-capacity .ensures, ← c .before .before .before .before .before .before .before .before .before .before .before .put-live .ensures, ← c .before .before .before .before .before .before .before .none .ensures, ← c .before .before .before .before .before .before .store .ensures, ← c .before .before .put-open .ensures)
 
 pub empty-spec : {M : Type 1} → statement M
 empty-spec =
@@ -52,7 +44,7 @@ empty-spec =
     put-capacity-requires
     put-live-requires
     none-requires
-    put-requires
+    store-requires
     put-open-requires
     same-length
     returns)

@@ -1,4 +1,4 @@
-use Prim.Native.Nat.{ℕ, _<_, _≤_}
+use Prim.Native.Nat.{_<_, _≤_}
 use mathlib.Core.Path.{_≡_}
 use native.Mathlib.Omega.{arith}
 use lib.ListN.{length}
@@ -7,10 +7,6 @@ use Rattle.whole_table.proofs.empty.free_slots.Statement.{statement}
 use Rattle.whole_table.specs.Empty.{freeSlots♯, ownPlace, freeSlots♯-zero, freeSlots♯-suc}
 use borrow.Author.Needs.{needs}
 use Rattle.whole_table.proofs.empty.free_slots.Tie as tie
-use Rattle.whole_table.proofs.empty.free_slots.Reads as reads
-use Rattle.whole_table.proofs.empty.free_slots.Lts as lts
-use Rattle.table.proofs.runs.put_place.Reads as put-place-reads
-use Rattle.table.proofs.runs.put_used.Reads as put-used-reads
 
 abbrev Inv-loop : tie.InvT-loop
 Inv-loop t₀ capacity left₀ t left = (length t ≡ length t₀) × (left ≤ capacity) × (freeSlots♯ left capacity t ≡ freeSlots♯ capacity capacity t₀)

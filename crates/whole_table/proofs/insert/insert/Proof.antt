@@ -3,14 +3,6 @@ use borrow.Author.Needs.{needs}
 use Rattle.whole_table.proofs.insert.insert.Statement.{statement}
 use Rattle.whole_table.specs.Insert.{entered, insertLive, insertSlot, tableInsert♯}
 use Rattle.whole_table.proofs.insert.insert.Tie as tie
-use Rattle.whole_table.proofs.insert.insert.Reads as reads
-use Rattle.whole_table.proofs.insert.insert.Lts as lts
-use Rattle.nodes.proofs.weights.sum.Reads as sum-reads
-use Rattle.primary_insert.proofs.insert.insert.Reads as insert-reads
-use Rattle.table.proofs.header.live.Reads as live-reads
-use Rattle.table.proofs.header.put_live.Reads as put-live-reads
-use Rattle.table.proofs.runs.used.Reads as used-reads
-use Rattle.table.proofs.slots.put_slot.Reads as put-slot-reads
 
 -- src/insert.rt:19:9
 live-requires : tie.Need-live-requires
@@ -33,8 +25,8 @@ returns c =
     rw (← at-start .pre .0, ← at-live .live .ensures, ← c .before .used .ensures, le-leb _ _ (c .if1 .taken))
 
 -- src/insert.rt:24:5
-put-slot-requires : tie.Need-put-slot-requires
-put-slot-requires c κs = search needs
+store-requires : tie.Need-store-requires
+store-requires c κs = search needs
 
 -- src/insert.rt:25:25
 sum-requires : tie.Need-sum-requires
@@ -59,8 +51,8 @@ returns-2 c =
     let at-insert = c .before .before in
     let at-put-live = at-insert .before .before .before .before in
     let at-sum = at-put-live .before in
-    let at-put-slot = at-sum .before .before .before .before in
-    let at-if1 = at-put-slot .before .before in
+    let at-store = at-sum .before .before .before .before in
+    let at-if1 = at-store .before .before in
     let at-used = at-if1 .before in
     let at-live = at-used .before .before in
     let at-start = at-live .before .before .before in
@@ -69,7 +61,7 @@ returns-2 c =
       ← at-live .live .ensures,
       ← at-used .used .ensures,
       lt-leb _ _ (at-if1 .if1 .left),
-      ← at-put-slot .put-slot .ensures,
+      ← at-store .store .ensures,
       ← at-sum .sum .ensures,
       ← at-put-live .put-live .ensures,
       ← at-insert .insert .ensures,
@@ -83,7 +75,7 @@ insert-spec =
     used-requires
     same-length
     returns
-    put-slot-requires
+    store-requires
     sum-requires
     put-live-requires
     insert-requires

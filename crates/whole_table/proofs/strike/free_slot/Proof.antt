@@ -2,16 +2,6 @@ use borrow.Author.Needs.{needs}
 use Rattle.whole_table.proofs.strike.free_slot.Statement.{statement}
 use Rattle.whole_table.specs.Strike.{exchanged, freeSlot♯, freeWithin}
 use Rattle.whole_table.proofs.strike.free_slot.Tie as tie
-use Rattle.whole_table.proofs.strike.free_slot.Reads as reads
-use Rattle.whole_table.proofs.strike.free_slot.Lts as lts
-use Rattle.table.proofs.header.capacity.Reads as capacity-reads
-use Rattle.table.proofs.header.live.Reads as live-reads
-use Rattle.table.proofs.header.put_live.Reads as put-live-reads
-use Rattle.table.proofs.runs.place.Reads as place-reads
-use Rattle.table.proofs.runs.put_place.Reads as put-place-reads
-use Rattle.table.proofs.runs.put_used.Reads as put-used-reads
-use Rattle.table.proofs.runs.used.Reads as used-reads
-use Rattle.nodes.proofs.weights.fewer.Reads as fewer-reads
 
 -- src/strike.rt:15:9
 capacity-requires : tie.Need-capacity-requires

@@ -2,10 +2,6 @@ use borrow.Author.Needs.{needs}
 use Rattle.whole_table.proofs.strike.strike.Statement.{statement}
 use Rattle.whole_table.specs.Strike.{struck, tableStrike♯}
 use Rattle.whole_table.proofs.strike.strike.Tie as tie
-use Rattle.whole_table.proofs.strike.strike.Reads as reads
-use Rattle.whole_table.proofs.strike.strike.Lts as lts
-use Rattle.primary_strike.proofs.strike.strike.Reads as strike-reads
-use Rattle.whole_table.proofs.strike.free_slot.Reads as free-slot-reads
 
 -- src/strike.rt:32:9
 strike-requires : tie.Need-strike-requires

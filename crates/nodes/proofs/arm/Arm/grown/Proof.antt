@@ -2,11 +2,6 @@ use borrow.Author.Needs.{needs}
 use Rattle.nodes.proofs.arm.Arm.grown.Statement.{statement}
 use Rattle.nodes.specs.Arms.{grownArm}
 use Rattle.nodes.proofs.arm.Arm.grown.Tie as tie
-use Rattle.nodes.proofs.arm.Arm.grown.Reads as reads
-use Rattle.nodes.proofs.arm.Arm.grown.Lts as lts
-use Rattle.table.proofs.words.greater.Reads as greater-reads
-use Rattle.table.proofs.words.lesser.Reads as lesser-reads
-use Rattle.nodes.proofs.weights.sum.Reads as sum-reads
 
 -- src/arm.rt:82:13
 sum-requires : tie.Need-sum-requires

@@ -2,9 +2,6 @@ use borrow.Author.Needs.{needs}
 use Rattle.nodes.proofs.arm.Arm.leaf.Statement.{statement}
 use Rattle.nodes.specs.Arms.{leafArm}
 use Rattle.nodes.proofs.arm.Arm.leaf.Tie as tie
-use Rattle.nodes.proofs.arm.Arm.leaf.Reads as reads
-use Rattle.nodes.proofs.arm.Arm.leaf.Lts as lts
-use Rattle.nodes.proofs.arm.leaf_number.Reads as leaf-number-reads
 
 -- src/arm.rt:55:13
 leaf-number-requires : tie.Need-leaf-number-requires

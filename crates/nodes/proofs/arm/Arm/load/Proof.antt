@@ -1,10 +1,8 @@
 use Rattle.nodes.specs.Arms.{armAt}
-use borrow.Author.Tests.{le-leb}
+use mathlib.Core.Path.{refl}
 use borrow.Author.Needs.{needs}
 use Rattle.nodes.proofs.arm.Arm.load.Statement.{statement}
 use Rattle.nodes.proofs.arm.Arm.load.Tie as tie
-use Rattle.nodes.proofs.arm.Arm.load.Reads as reads
-use Rattle.nodes.proofs.arm.Arm.load.Lts as lts
 
 -- src/arm.rt:99:19
 mul-t3 : tie.Need-mul-t3
@@ -53,7 +51,7 @@ shared-slice-read-t17 c = search needs
 -- src/arm.rt:94:5
 returns : tie.Need-returns
 unfolding armAt
-returns c = rw (le-leb _ _ (c .before .before .before .before .pre))
+returns c = refl
 
 pub load-spec : {M : Type 1} → statement M
 load-spec =

@@ -2,10 +2,6 @@ use borrow.Author.Needs.{needs}
 use Rattle.nodes.proofs.arm.Arm.over.Statement.{statement}
 use Rattle.nodes.specs.Arms.{overArm}
 use Rattle.nodes.proofs.arm.Arm.over.Tie as tie
-use Rattle.nodes.proofs.arm.Arm.over.Reads as reads
-use Rattle.nodes.proofs.arm.Arm.over.Lts as lts
-use Rattle.nodes.proofs.arm.inner_number.Reads as inner-number-reads
-use Rattle.nodes.proofs.weights.sum.Reads as sum-reads
 
 -- src/arm.rt:68:13
 inner-number-requires : tie.Need-inner-number-requires

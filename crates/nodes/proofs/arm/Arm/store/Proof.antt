@@ -5,8 +5,6 @@ use Rattle.nodes.proofs.arm.Arm.store.Statement.{statement}
 use native.Mathlib.Omega.{arith}
 use lib.ListN.{length-set}
 use Rattle.nodes.proofs.arm.Arm.store.Tie as tie
-use Rattle.nodes.proofs.arm.Arm.store.Reads as reads
-use Rattle.nodes.proofs.arm.Arm.store.Lts as lts
 
 -- src/arm.rt:110:9
 mul-t : tie.Need-mul-t
@@ -58,7 +56,7 @@ same-length c = search needs
 
 -- src/arm.rt:106:5
 returns : tie.Need-returns
-returns c = let a = c .args in putArm-stores (a .t .now) (a .at) (armValue (a .a)) (c .pre)
+returns c = let a = c .args in putArm-stores (a .t .now) (a .at) (armValue (a .a))
 
 pub store-spec : {M : Type 1} → statement M
 store-spec =

@@ -2,8 +2,6 @@ use borrow.Author.Needs.{needs}
 use Rattle.nodes.proofs.arm.Record.child.Statement.{statement}
 use Rattle.nodes.specs.Arms.{childAt}
 use Rattle.nodes.proofs.arm.Record.child.Tie as tie
-use Rattle.nodes.proofs.arm.Record.child.Reads as reads
-use Rattle.nodes.proofs.arm.Record.child.Lts as lts
 
 -- src/arm.rt:143:13
 returns : tie.Need-returns

@@ -1,37 +1,31 @@
-use Rattle.nodes.proofs.Stores.{putRecord-arms}
 use borrow.Author.Needs.{needs}
 use Rattle.nodes.proofs.arm.Record.store.Statement.{statement}
+use Rattle.nodes.specs.Arms.{putRecord}
 use Rattle.nodes.proofs.arm.Record.store.Tie as tie
-use Rattle.nodes.proofs.arm.Record.store.Reads as reads
-use Rattle.nodes.proofs.arm.Record.store.Lts as lts
-use Rattle.nodes.proofs.arm.Arm.store.Reads as store-reads
 
--- src/arm.rt:132:9
+-- src/arm.rt:146:9
 store-requires : tie.Need-store-requires
 store-requires c κs = search needs
 
--- src/arm.rt:133:23
+-- src/arm.rt:147:23
 add-store : tie.Need-add-store
 add-store c = search needs
 
--- src/arm.rt:133:9
+-- src/arm.rt:147:9
 store-requires-2 : tie.Need-store-requires-2
 store-requires-2 c κs = search needs
 
--- src/arm.rt:128:5
+-- src/arm.rt:142:5
 same-length : tie.Need-same-length
 same-length c = search needs
 
--- src/arm.rt:128:5
+-- src/arm.rt:142:5
 returns : tie.Need-returns
+unfolding putRecord
 returns c =
-    let at-store = c .before .before .before .before .before .before in
-    let at-start = at-store .before .before .before in
-    rw (
-      putRecord-arms _ _ _ _ (at-start .pre),
-      ← at-store .store .ensures,
-      ← c .before .before .store2 .ensures,
-    )
+    let at-store2 = c .before .before in
+    let at-store = at-store2 .before .before .before .before in
+    rw (← at-store .store .ensures, ← at-store2 .store2 .ensures)
 
 pub store-spec : {M : Type 1} → statement M
 store-spec = tie.close (tie.spec store-requires add-store store-requires-2 same-length returns)

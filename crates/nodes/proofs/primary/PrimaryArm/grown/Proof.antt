@@ -1,11 +1,6 @@
 use borrow.Author.Needs.{needs}
 use Rattle.nodes.proofs.primary.PrimaryArm.grown.Statement.{statement}
 use Rattle.nodes.proofs.primary.PrimaryArm.grown.Tie as tie
-use Rattle.nodes.proofs.primary.PrimaryArm.grown.Reads as reads
-use Rattle.nodes.proofs.primary.PrimaryArm.grown.Lts as lts
-use Rattle.nodes.proofs.arm.Arm.grown.Reads as grown-reads
-use Rattle.nodes.proofs.primary.PrimaryArm.bare.Reads as bare-reads
-use Rattle.nodes.proofs.primary.PrimaryArm.of.Reads as of-reads
 
 -- src/primary.rt:109:13
 bare-requires : tie.Need-bare-requires

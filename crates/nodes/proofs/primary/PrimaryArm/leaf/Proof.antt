@@ -2,10 +2,6 @@ use borrow.Author.Needs.{needs}
 use Rattle.nodes.proofs.primary.PrimaryArm.leaf.Statement.{statement}
 use Rattle.nodes.specs.Arms.{leafArm}
 use Rattle.nodes.proofs.primary.PrimaryArm.leaf.Tie as tie
-use Rattle.nodes.proofs.primary.PrimaryArm.leaf.Reads as reads
-use Rattle.nodes.proofs.primary.PrimaryArm.leaf.Lts as lts
-use Rattle.nodes.proofs.arm.Arm.leaf.Reads as leaf-reads
-use Rattle.nodes.proofs.primary.PrimaryArm.of.Reads as of-reads
 
 -- src/primary.rt:95:24
 leaf-requires : tie.Need-leaf-requires

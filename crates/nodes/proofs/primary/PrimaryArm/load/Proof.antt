@@ -2,10 +2,6 @@ use borrow.Author.Needs.{needs}
 use Rattle.nodes.proofs.primary.PrimaryArm.load.Statement.{statement}
 use Rattle.nodes.specs.Arms.{armAt}
 use Rattle.nodes.proofs.primary.PrimaryArm.load.Tie as tie
-use Rattle.nodes.proofs.primary.PrimaryArm.load.Reads as reads
-use Rattle.nodes.proofs.primary.PrimaryArm.load.Lts as lts
-use Rattle.nodes.proofs.arm.Arm.load.Reads as load-reads
-use Rattle.nodes.proofs.primary.PrimaryArm.of.Reads as of-reads
 
 -- src/primary.rt:118:24
 load-requires : tie.Need-load-requires

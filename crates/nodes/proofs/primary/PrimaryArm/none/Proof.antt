@@ -1,10 +1,6 @@
 use borrow.Author.Needs.{needs}
 use Rattle.nodes.proofs.primary.PrimaryArm.none.Statement.{statement}
 use Rattle.nodes.proofs.primary.PrimaryArm.none.Tie as tie
-use Rattle.nodes.proofs.primary.PrimaryArm.none.Reads as reads
-use Rattle.nodes.proofs.primary.PrimaryArm.none.Lts as lts
-use Rattle.nodes.proofs.arm.Arm.none.Reads as none-reads
-use Rattle.nodes.proofs.primary.PrimaryArm.of.Reads as of-reads
 
 -- src/primary.rt:88:24
 none-requires : tie.Need-none-requires

@@ -1,11 +1,6 @@
 use borrow.Author.Needs.{needs}
 use Rattle.nodes.proofs.primary.PrimaryArm.over.Statement.{statement}
 use Rattle.nodes.proofs.primary.PrimaryArm.over.Tie as tie
-use Rattle.nodes.proofs.primary.PrimaryArm.over.Reads as reads
-use Rattle.nodes.proofs.primary.PrimaryArm.over.Lts as lts
-use Rattle.nodes.proofs.arm.Arm.over.Reads as over-reads
-use Rattle.nodes.proofs.primary.PrimaryArm.bare.Reads as bare-reads
-use Rattle.nodes.proofs.primary.PrimaryArm.of.Reads as of-reads
 
 -- src/primary.rt:102:40
 bare-requires : tie.Need-bare-requires

@@ -1,10 +1,6 @@
 use borrow.Author.Needs.{needs}
 use Rattle.nodes.proofs.primary.PrimaryArm.store.Statement.{statement}
 use Rattle.nodes.proofs.primary.PrimaryArm.store.Tie as tie
-use Rattle.nodes.proofs.primary.PrimaryArm.store.Reads as reads
-use Rattle.nodes.proofs.primary.PrimaryArm.store.Lts as lts
-use Rattle.nodes.proofs.arm.Arm.store.Reads as store-reads
-use Rattle.nodes.proofs.primary.PrimaryArm.bare.Reads as bare-reads
 
 -- src/primary.rt:125:27
 bare-requires : tie.Need-bare-requires

@@ -1,9 +1,6 @@
 use borrow.Author.Needs.{needs}
 use Rattle.nodes.proofs.primary.PrimaryRecord.child.Statement.{statement}
 use Rattle.nodes.proofs.primary.PrimaryRecord.child.Tie as tie
-use Rattle.nodes.proofs.primary.PrimaryRecord.child.Reads as reads
-use Rattle.nodes.proofs.primary.PrimaryRecord.child.Lts as lts
-use Rattle.nodes.proofs.arm.Record.child.Reads as child-reads
 
 -- src/primary.rt:193:13
 add-child : tie.Need-add-child

@@ -2,10 +2,6 @@ use borrow.Author.Needs.{needs}
 use Rattle.nodes.proofs.primary.PrimaryRecord.load.Statement.{statement}
 use Rattle.nodes.specs.Arms.{recordAt}
 use Rattle.nodes.proofs.primary.PrimaryRecord.load.Tie as tie
-use Rattle.nodes.proofs.primary.PrimaryRecord.load.Reads as reads
-use Rattle.nodes.proofs.primary.PrimaryRecord.load.Lts as lts
-use Rattle.nodes.proofs.arm.Record.load.Reads as load-reads
-use Rattle.nodes.proofs.primary.PrimaryArm.of.Reads as of-reads
 
 -- src/primary.rt:168:13
 add-load : tie.Need-add-load

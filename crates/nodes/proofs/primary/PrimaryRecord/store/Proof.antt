@@ -1,10 +1,6 @@
 use borrow.Author.Needs.{needs}
 use Rattle.nodes.proofs.primary.PrimaryRecord.store.Statement.{statement}
 use Rattle.nodes.proofs.primary.PrimaryRecord.store.Tie as tie
-use Rattle.nodes.proofs.primary.PrimaryRecord.store.Reads as reads
-use Rattle.nodes.proofs.primary.PrimaryRecord.store.Lts as lts
-use Rattle.nodes.proofs.arm.Record.store.Reads as store-reads
-use Rattle.nodes.proofs.primary.PrimaryArm.bare.Reads as bare-reads
 
 -- src/primary.rt:181:13
 add-store : tie.Need-add-store

@@ -1,11 +1,6 @@
 use borrow.Author.Needs.{needs}
 use Rattle.nodes.proofs.secondary.SecondaryArm.grown.Statement.{statement}
 use Rattle.nodes.proofs.secondary.SecondaryArm.grown.Tie as tie
-use Rattle.nodes.proofs.secondary.SecondaryArm.grown.Reads as reads
-use Rattle.nodes.proofs.secondary.SecondaryArm.grown.Lts as lts
-use Rattle.nodes.proofs.arm.Arm.grown.Reads as grown-reads
-use Rattle.nodes.proofs.secondary.SecondaryArm.bare.Reads as bare-reads
-use Rattle.nodes.proofs.secondary.SecondaryArm.of.Reads as of-reads
 
 -- src/secondary.rt:108:13
 bare-requires : tie.Need-bare-requires

@@ -2,10 +2,6 @@ use borrow.Author.Needs.{needs}
 use Rattle.nodes.proofs.secondary.SecondaryArm.leaf.Statement.{statement}
 use Rattle.nodes.specs.Arms.{leafArm}
 use Rattle.nodes.proofs.secondary.SecondaryArm.leaf.Tie as tie
-use Rattle.nodes.proofs.secondary.SecondaryArm.leaf.Reads as reads
-use Rattle.nodes.proofs.secondary.SecondaryArm.leaf.Lts as lts
-use Rattle.nodes.proofs.arm.Arm.leaf.Reads as leaf-reads
-use Rattle.nodes.proofs.secondary.SecondaryArm.of.Reads as of-reads
 
 -- src/secondary.rt:94:26
 leaf-requires : tie.Need-leaf-requires

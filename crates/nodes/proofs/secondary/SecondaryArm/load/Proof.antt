@@ -2,10 +2,6 @@ use borrow.Author.Needs.{needs}
 use Rattle.nodes.proofs.secondary.SecondaryArm.load.Statement.{statement}
 use Rattle.nodes.specs.Arms.{armAt}
 use Rattle.nodes.proofs.secondary.SecondaryArm.load.Tie as tie
-use Rattle.nodes.proofs.secondary.SecondaryArm.load.Reads as reads
-use Rattle.nodes.proofs.secondary.SecondaryArm.load.Lts as lts
-use Rattle.nodes.proofs.arm.Arm.load.Reads as load-reads
-use Rattle.nodes.proofs.secondary.SecondaryArm.of.Reads as of-reads
 
 -- src/secondary.rt:117:26
 load-requires : tie.Need-load-requires

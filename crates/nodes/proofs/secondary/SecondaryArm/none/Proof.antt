@@ -1,10 +1,6 @@
 use borrow.Author.Needs.{needs}
 use Rattle.nodes.proofs.secondary.SecondaryArm.none.Statement.{statement}
 use Rattle.nodes.proofs.secondary.SecondaryArm.none.Tie as tie
-use Rattle.nodes.proofs.secondary.SecondaryArm.none.Reads as reads
-use Rattle.nodes.proofs.secondary.SecondaryArm.none.Lts as lts
-use Rattle.nodes.proofs.arm.Arm.none.Reads as none-reads
-use Rattle.nodes.proofs.secondary.SecondaryArm.of.Reads as of-reads
 
 -- src/secondary.rt:87:26
 none-requires : tie.Need-none-requires

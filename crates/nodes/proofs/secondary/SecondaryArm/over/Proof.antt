@@ -1,11 +1,6 @@
 use borrow.Author.Needs.{needs}
 use Rattle.nodes.proofs.secondary.SecondaryArm.over.Statement.{statement}
 use Rattle.nodes.proofs.secondary.SecondaryArm.over.Tie as tie
-use Rattle.nodes.proofs.secondary.SecondaryArm.over.Reads as reads
-use Rattle.nodes.proofs.secondary.SecondaryArm.over.Lts as lts
-use Rattle.nodes.proofs.arm.Arm.over.Reads as over-reads
-use Rattle.nodes.proofs.secondary.SecondaryArm.bare.Reads as bare-reads
-use Rattle.nodes.proofs.secondary.SecondaryArm.of.Reads as of-reads
 
 -- src/secondary.rt:101:42
 bare-requires : tie.Need-bare-requires

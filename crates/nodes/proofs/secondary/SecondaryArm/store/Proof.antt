@@ -1,10 +1,6 @@
 use borrow.Author.Needs.{needs}
 use Rattle.nodes.proofs.secondary.SecondaryArm.store.Statement.{statement}
 use Rattle.nodes.proofs.secondary.SecondaryArm.store.Tie as tie
-use Rattle.nodes.proofs.secondary.SecondaryArm.store.Reads as reads
-use Rattle.nodes.proofs.secondary.SecondaryArm.store.Lts as lts
-use Rattle.nodes.proofs.arm.Arm.store.Reads as store-reads
-use Rattle.nodes.proofs.secondary.SecondaryArm.bare.Reads as bare-reads
 
 -- src/secondary.rt:124:27
 bare-requires : tie.Need-bare-requires

@@ -1,9 +1,6 @@
 use borrow.Author.Needs.{needs}
 use Rattle.nodes.proofs.secondary.SecondaryRecord.child.Statement.{statement}
 use Rattle.nodes.proofs.secondary.SecondaryRecord.child.Tie as tie
-use Rattle.nodes.proofs.secondary.SecondaryRecord.child.Reads as reads
-use Rattle.nodes.proofs.secondary.SecondaryRecord.child.Lts as lts
-use Rattle.nodes.proofs.arm.Record.child.Reads as child-reads
 
 -- src/secondary.rt:188:41
 mul-child : tie.Need-mul-child

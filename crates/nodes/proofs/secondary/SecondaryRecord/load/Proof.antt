@@ -2,10 +2,6 @@ use borrow.Author.Needs.{needs}
 use Rattle.nodes.proofs.secondary.SecondaryRecord.load.Statement.{statement}
 use Rattle.nodes.specs.Arms.{recordAt}
 use Rattle.nodes.proofs.secondary.SecondaryRecord.load.Tie as tie
-use Rattle.nodes.proofs.secondary.SecondaryRecord.load.Reads as reads
-use Rattle.nodes.proofs.secondary.SecondaryRecord.load.Lts as lts
-use Rattle.nodes.proofs.arm.Record.load.Reads as load-reads
-use Rattle.nodes.proofs.secondary.SecondaryArm.of.Reads as of-reads
 
 -- src/secondary.rt:165:51
 mul-load : tie.Need-mul-load

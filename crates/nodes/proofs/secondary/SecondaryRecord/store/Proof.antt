@@ -1,10 +1,6 @@
 use borrow.Author.Needs.{needs}
 use Rattle.nodes.proofs.secondary.SecondaryRecord.store.Statement.{statement}
 use Rattle.nodes.proofs.secondary.SecondaryRecord.store.Tie as tie
-use Rattle.nodes.proofs.secondary.SecondaryRecord.store.Reads as reads
-use Rattle.nodes.proofs.secondary.SecondaryRecord.store.Lts as lts
-use Rattle.nodes.proofs.arm.Record.store.Reads as store-reads
-use Rattle.nodes.proofs.secondary.SecondaryArm.bare.Reads as bare-reads
 
 -- src/secondary.rt:177:31
 mul-store : tie.Need-mul-store

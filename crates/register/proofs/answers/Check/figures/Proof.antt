@@ -1,9 +1,6 @@
 use borrow.Author.Needs.{needs}
 use Rattle.register.proofs.answers.Check.figures.Statement.{statement}
 use Rattle.register.proofs.answers.Check.figures.Tie as tie
-use Rattle.register.proofs.answers.Check.figures.Reads as reads
-use Rattle.register.proofs.answers.Check.figures.Lts as lts
-use Rattle.register.proofs.answers.TableFigures.refused.Reads as refused-reads
 
 -- src/answers.rt:191:26
 enum-known-self : tie.Need-enum-known-self

@@ -1,9 +1,6 @@
 use borrow.Author.Needs.{needs}
 use Rattle.register.proofs.answers.Count.figures.Statement.{statement}
 use Rattle.register.proofs.answers.Count.figures.Tie as tie
-use Rattle.register.proofs.answers.Count.figures.Reads as reads
-use Rattle.register.proofs.answers.Count.figures.Lts as lts
-use Rattle.register.proofs.answers.CountFigures.refused.Reads as refused-reads
 
 -- src/answers.rt:155:28
 enum-known-self : tie.Need-enum-known-self

@@ -1,9 +1,6 @@
 use borrow.Author.Needs.{needs}
 use Rattle.register.proofs.answers.Listing.figures.Statement.{statement}
 use Rattle.register.proofs.answers.Listing.figures.Tie as tie
-use Rattle.register.proofs.answers.Listing.figures.Reads as reads
-use Rattle.register.proofs.answers.Listing.figures.Lts as lts
-use Rattle.register.proofs.answers.ListFigures.refused.Reads as refused-reads
 
 -- src/answers.rt:172:29
 enum-known-self : tie.Need-enum-known-self

@@ -1,9 +1,6 @@
 use borrow.Author.Needs.{needs}
 use Rattle.register.proofs.answers.Opening.figures.Statement.{statement}
 use Rattle.register.proofs.answers.Opening.figures.Tie as tie
-use Rattle.register.proofs.answers.Opening.figures.Reads as reads
-use Rattle.register.proofs.answers.Opening.figures.Lts as lts
-use Rattle.register.proofs.answers.TableFigures.refused.Reads as refused-reads
 
 -- src/answers.rt:123:32
 enum-told : tie.Need-enum-told

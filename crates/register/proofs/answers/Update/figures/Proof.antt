@@ -1,9 +1,6 @@
 use borrow.Author.Needs.{needs}
 use Rattle.register.proofs.answers.Update.figures.Statement.{statement}
 use Rattle.register.proofs.answers.Update.figures.Tie as tie
-use Rattle.register.proofs.answers.Update.figures.Reads as reads
-use Rattle.register.proofs.answers.Update.figures.Lts as lts
-use Rattle.register.proofs.answers.UpdateFigures.refused.Reads as refused-reads
 
 -- src/answers.rt:135:26
 enum-known-self : tie.Need-enum-known-self
