@@ -161,9 +161,16 @@ module _ (f : ℕ → Mark) (b : Box) where
         pub count-tree : (d : ℕ) (t : SlotMain) → d + depth t ≤ 38 → Ready f C xs d t → Sorted (slotAxis f alongX) (marks t)
             → mainSearch♯ xs C b (levelPlace C d) (armOf alongX f t) ≡ added (searchedMain t) 0
         unfolding mainSearch♯
-        count-tree d t e h o =
-            count-adds (mainKind xs C b) alongX b f (slotAuxiliary f) ordered C xs added added-both added-swap added-arrive (alongX-straight b fine)
-            (levelPlace C d) t (omega arith) (laid d t e h o) o 0
+        count-tree d (leaf s) e h o =
+            let even : (2 * s) % 2 ≡ 0 = omega arith in
+            let half : (2 * s) / 2 ≡ s = omega arith in
+            rw (half, lt-leb C s (h .0), eq-eqb ((2 * s) % 2) 0 even) (leaf-adds s (h .1) 0)
+        count-tree d (node i l r) e h o =
+            let odd : ((2 * least r + 1) % 2 ≡ 0 → ⊥) = omega arith in
+            let half : (2 * least r + 1) / 2 ≡ least r = omega arith in
+            rw (half, lt-leb C (least r) (h .0 .within), ne-eqb ((2 * least r + 1) % 2) 0 odd)
+            (count-adds (mainKind xs C b) alongX b f (slotAuxiliary f) ordered C xs added added-both added-swap added-arrive (alongX-straight b fine)
+            (levelPlace C d) (node i l r) (omega arith) (laid d (node i l r) e h o) o 0)
 
 -- figures of a sound table fill their places in the tally
 added-pack : (g : Found) → g .found ≤ 65536 → g .visits ≤ mostVisits → added g 0 ≡ pack (g .found) (g .visits)

@@ -58,7 +58,9 @@ module _ (xs : List ℕ) (capacity : ℕ) (b : Box) where
 
   -- from the arm of a tree whose level begins at a word
   unfoldable pub mainSearch♯ : ℕ → Arm → ℕ
-  mainSearch♯ base a = countTree mainKind (sideAlong alongX b) capacity xs base a 0
+  mainSearch♯ base a =
+      if leb capacity (a .node / 2) then lost
+      else (if eqb (a .node % 2) 0 then leaf♯ xs b (a .node / 2) 0 else countTree mainKind (sideAlong alongX b) capacity xs base a 0)
 
   unfoldable pub countRoot : Arm → ℕ
   countRoot a = if eqb (a .weight) 0 then 0 else mainSearch♯ (topLevel capacity) a

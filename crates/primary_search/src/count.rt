@@ -31,13 +31,14 @@ fn leaf(t: &[u32], b: Box, s: u32, tally: Tally) -> Tally
 }
 
 // The arrival at the inner node named s, which hands over to its auxiliary tree: here it is told once that the words have the whole level. The tree is searched
-// by y alone: the ends of the side are handed on as numbers, which stay in registers, where a Box would be copied to memory for each walk.
-fn hand_over(t: &[u32], base: u32, capacity: u32, y1: u32, y2: u32, s: u32, tally: Tally) -> Tally
+// by y alone: the ends of the side are handed on as numbers, which stay in registers, where a Box would be copied to memory for each walk. (The tally is a
+// number too, here and back: this is the one real call of a count, and a Tally would go through memory.)
+fn hand_over(t: &[u32], base: u32, capacity: u32, y1: u32, y2: u32, s: u32, tally: u64) -> u64
     requires { ⌜ auxiliaryPlace s + armWidth ≤ length (now t) ⌝ }
-    ensures { λ r. ⌜ r .0 ≡ handOver♯ (now (t .entry)) capacity (box 0 0 y1 y2) base s (tally .0) ⌝ }
+    ensures { λ r. ⌜ r ≡ handOver♯ (now (t .entry)) capacity (box 0 0 y1 y2) base s tally ⌝ }
 {
     if t.len() < (base as usize) + layout::RECORD * (capacity as usize) {
-        return Tally::lost();
+        return limits::LOST;
     }
     let root = PrimaryRecord::load_auxiliary(t, s);
     let side = Box {
@@ -46,26 +47,24 @@ fn hand_over(t: &[u32], base: u32, capacity: u32, y1: u32, y2: u32, s: u32, tall
         y1,
         y2,
     };
-    secondary_search::count::count(t, base, capacity, side, root, tally.visit())
+    let here = Tally(tally).visit();
+    let found = secondary_search::count::count(t, base, capacity, side, root, here);
+    found.0
 }
 
-// The arrival at a node of that number whose cell is inside the box's side. (A number for the tally, here and back: the loops call this one, where a Tally
-// would go through memory.)
-fn handed(t: &[u32], base: u32, capacity: u32, b: Box, node: Primary, tally: u64) -> u64
+// The arrival at a node of that number whose cell is inside the box's side.
+fn handed(t: &[u32], base: u32, capacity: u32, b: Box, node: Primary, tally: Tally) -> Tally
     requires { ⌜ slotsEnd capacity ≤ length (now t) ⌝ }
-    ensures { λ r. ⌜ r ≡ handed♯ (now (t .entry)) capacity (boxValue b) base (node .0) tally ⌝ }
+    ensures { λ r. ⌜ r .0 ≡ handed♯ (now (t .entry)) capacity (boxValue b) base (node .0) (tally .0) ⌝ }
 {
     let s = node.slot();
     if capacity <= s {
-        return limits::LOST;
+        return Tally::lost();
     }
-    let from = Tally(tally);
     if node.is_leaf() {
-        let found = leaf(t, b, s, from);
-        return found.0;
+        return leaf(t, b, s, tally);
     }
-    let found = hand_over(t, base, capacity, b.y1, b.y2, s, from);
-    found.0
+    Tally(hand_over(t, base, capacity, b.y1, b.y2, s, tally.0))
 }
 
 // Beneath a node in which the side begins, and which ends on it; its level begins at `level`.
@@ -95,10 +94,10 @@ fn from_low(t: &[u32], level: u32, capacity: u32, b: Box, start: Primary, from: 
                 tally = tally.visit();
                 node = right_node;
             } else {
-                return Tally(handed(t, base, capacity, b, right_node, tally.0));
+                return handed(t, base, capacity, b, right_node, tally);
             }
         } else {
-            tally = Tally(handed(t, base, capacity, b, right_node, tally.0)).visit();
+            tally = handed(t, base, capacity, b, right_node, tally).visit();
             node = left_node;
         }
     }
@@ -132,10 +131,10 @@ fn to_high(t: &[u32], level: u32, capacity: u32, b: Box, start: Primary, from: T
                 tally = tally.visit();
                 node = left_node;
             } else {
-                return Tally(handed(t, base, capacity, b, left_node, tally.0));
+                return handed(t, base, capacity, b, left_node, tally);
             }
         } else {
-            tally = Tally(handed(t, base, capacity, b, left_node, tally.0)).visit();
+            tally = handed(t, base, capacity, b, left_node, tally).visit();
             node = right_node;
         }
     }
@@ -153,7 +152,7 @@ fn low_end(t: &[u32], base: u32, capacity: u32, b: Box, a: PrimaryArm, tally: Ta
     if b.before_x(a.least) {
         return from_low(t, base, capacity, b, a.node, tally.visit());
     }
-    Tally(handed(t, base, capacity, b, a.node, tally.0))
+    handed(t, base, capacity, b, a.node, tally)
 }
 
 fn high_end(t: &[u32], base: u32, capacity: u32, b: Box, a: PrimaryArm, tally: Tally) -> Tally
@@ -166,7 +165,7 @@ fn high_end(t: &[u32], base: u32, capacity: u32, b: Box, a: PrimaryArm, tally: T
     if b.past_x(a.greatest) {
         return to_high(t, base, capacity, b, a.node, tally.visit());
     }
-    Tally(handed(t, base, capacity, b, a.node, tally.0))
+    handed(t, base, capacity, b, a.node, tally)
 }
 
 // Beneath a node whose cell is neither inside the side nor clear of it; its level begins at `level`. Where the right child begins before the side, the left one
@@ -213,8 +212,16 @@ pub fn search(t: &[u32], level: u32, capacity: u32, b: Box, root: PrimaryArm) ->
     requires { ⌜ slotsEnd capacity ≤ length (now t) ⌝ }
     ensures { λ r. ⌜ r .0 ≡ mainSearch♯ (now (t .entry)) capacity (boxValue b) level (primaryArm root) ⌝ }
 {
+    let n = root.node;
+    let s = n.slot();
+    if capacity <= s {
+        return Tally::lost();
+    }
+    if n.is_leaf() {
+        return leaf(t, b, s, Tally::none());
+    }
     if b.inside_x(root.least, root.greatest) {
-        return Tally(handed(t, level, capacity, b, root.node, 0));
+        return Tally(hand_over(t, level, capacity, b.y1, b.y2, s, 0));
     }
     if b.before_x(root.greatest) {
         return Tally::none().before(root.weight);
@@ -222,7 +229,7 @@ pub fn search(t: &[u32], level: u32, capacity: u32, b: Box, root: PrimaryArm) ->
     if b.past_x(root.least) {
         return Tally::none().past();
     }
-    opened(t, level, capacity, b, root.node, Tally::none().visit())
+    opened(t, level, capacity, b, n, Tally::none().visit())
 }
 
 // The marks of the table that the box of these sides holds, with the visits. Where they are more than a sound table's can be (sizes::Size), the words hold

@@ -17,7 +17,7 @@ use Rattle.model.proofs.Sizes.{capacity-small}
 use Rattle.table.specs.Layout.{openPlace, capacityPlace, livePlace, runsEnd}
 use Rattle.nodes.proofs.Levels.{W-words}
 use Rattle.twofold_layout.specs.Sound.{Holding, SoundTable}
-use Rattle.table.specs.Header.{capacityOf, liveOf, notTable, ownWords}
+use Rattle.table.specs.Header.{capacityOf, liveOf, OfCapacity, notTable, ownWords}
 use Rattle.twofold_layout.proofs.Sound.{live-within}
 use Rattle.table.proofs.Own.{own-table, table-own}
 use Rattle.register.specs.Performs.{own}
@@ -93,20 +93,22 @@ module _ (xs : List ℕ) where
       (omega (arith, live-within h, c, own-live)) long in
       omega (arith, k .0, k .1)
 
--- the own words as the code lends them: no more marks are live than the largest capacity
-pub part-live : (xs : List ℕ) (n : ℕ) → n ≡ ownWords xs → (n ≡ 0 → ⊥) → getD (take (n - 0) xs) livePlace 0 ≤ 65536
-part-live xs n is some =
-    let table : (ownWords xs ≡ 0 → ⊥) = λ z. some (is ∙ z) in
-    let k = own-table xs table in
-    let e : take (n - 0) xs ≡ own xs = ap (λ n. take n xs) (sub-zero n ∙ is) ∙ own-is xs table in
-    rw e (omega (arith, own-live xs, k .2, capacity-small (capacityOf xs) (k .1)))
+-- the own words as the code lends them: those of a table of the capacity that the header says, and no more marks are live than the largest capacity
+module _ (xs : List ℕ) (n : ℕ) (is : n ≡ ownWords xs) (some : n ≡ 0 → ⊥) where
+  table : ownWords xs ≡ 0 → ⊥
+  table z = some (is ∙ z)
 
--- and the slots and runs of the capacity are there
-pub part-room : (xs : List ℕ) (n : ℕ) → n ≡ ownWords xs → (n ≡ 0 → ⊥) → runsEnd (capacityOf (take (n - 0) xs)) ≤ length (take (n - 0) xs)
-part-room xs n is some =
-    let table : (ownWords xs ≡ 0 → ⊥) = λ z. some (is ∙ z) in
-    let e : take (n - 0) xs ≡ own xs = ap (λ n. take n xs) (sub-zero n ∙ is) ∙ own-is xs table in
-    rw (e, own-capacity xs, own-length xs table) (omega (arith, W-words (capacityOf xs)))
+  part-own : take (n - 0) xs ≡ own xs
+  part-own = ap (λ n. take n xs) (sub-zero n ∙ is) ∙ own-is xs table
+
+  pub part-capacity : (capacity : ℕ) → capacity ≡ capacityOf xs → OfCapacity capacity (take (n - 0) xs)
+  part-capacity capacity e =
+      rw (part-own, own-capacity xs, own-length xs table, ← e) (refl, omega (arith, W-words capacity))
+
+  pub part-live : (live : ℕ) → live ≡ liveOf xs → (live ≡ liveOf (take (n - 0) xs)) × (live ≤ 65536)
+  part-live live e =
+      let k = own-table xs table in
+      rw part-own (e ∙ sym (own-live xs), omega (arith, k .2, capacity-small (capacityOf xs) (k .1)))
 
 -- words that hold a tree, with others behind them: the own words are those that hold it
 module _ {ws : List ℕ} {T : Main} (h : Holding ws T) (rest : List ℕ) where

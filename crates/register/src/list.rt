@@ -1,12 +1,11 @@
 // List: the marks of a box in two lent lists.
 ghost use mathlib.Core.Path.{_≡_};
 ghost use Prim.Native.Nat.{_*_, _≤_};
-ghost use lib.ListN.{length, getD};
+ghost use lib.ListN.{length};
 ghost use Rattle.model.specs.Sheet.{box};
 ghost use Rattle.model.specs.History as history;
 ghost use Rattle.geometry.specs.Values.{boxValue};
-ghost use Rattle.table.specs.Header.{capacityOf, OfCapacity};
-ghost use Rattle.table.specs.Layout.{livePlace, runsEnd};
+ghost use Rattle.table.specs.Header.{liveOf, OfCapacity};
 ghost use Rattle.table.specs.Limits.{mostVisits};
 ghost use Rattle.register.specs.Answers.{listAnswer, listFigures};
 ghost use Rattle.register.specs.Mirrors.{ListedOwn, ListsOwn, Lists};
@@ -38,20 +37,26 @@ fn list_marks(
     Listing::Listed(k, tally.visits(), which)
 }
 
-// Lists from the table's own words, in which no sound tree takes more visits than `most`. The count comes first: it tells what the lists must hold, and
-// finds most damage before anything is written.
-fn list_own(t: &[u32], most: u32, b: Box, first: &mut [u32], second: &mut [u32]) -> Listing
-    requires { ⌜ (most ≤ mostVisits) × (getD (now t) livePlace 0 ≤ 65536) × (runsEnd (capacityOf (now t)) ≤ length (now t)) ⌝ }
+// Lists from the words of a table with that header. The count comes first: it tells what the lists must hold, and finds most damage before anything is written.
+fn list_own(
+    t: &[u32],
+    capacity: u32,
+    live: u32,
+    most: u32,
+    b: Box,
+    first: &mut [u32],
+    second: &mut [u32],
+) -> Listing
+    requires { ⌜ OfCapacity capacity (now t) × (live ≡ liveOf (now t)) × (live ≤ 65536) × (most ≤ mostVisits) ⌝ }
     ensures { λ r. ⌜ ListsOwn (boxValue b) most (now (t .entry)) (now (first .entry)) (now (second .entry))
         (now (first .exit)) (now (second .exit)) (listFigures r) ⌝ }
 {
-    let capacity = header::capacity(t);
     let tally = primary_search::count::count(t, capacity, b.x1, b.x2, b.y1, b.y2);
     if most < tally.visits() {
         return Listing::Unsound;
     }
     let k = tally.found();
-    if header::live(t) < k {
+    if live < k {
         return Listing::Unsound;
     }
     let words = 3 * (k as usize);
@@ -83,7 +88,15 @@ fn listed(
     }
     match Box::new(x1, x2, y1, y2) {
         NewBox::Crossed => Listing::Crossed,
-        NewBox::Valid(b) => list_own(&table[0..words], own.visits, b, first, second),
+        NewBox::Valid(b) => list_own(
+            &table[0..words],
+            own.capacity,
+            own.live,
+            own.visits,
+            b,
+            first,
+            second,
+        ),
     }
 }
 

@@ -11,7 +11,7 @@ use borrow.Author.Tests.{ne-eqb, lt-ltb, le-ltb}
 use Rattle.model.specs.Sizes.{D, W, largestCapacity, capacityOutside}
 use Rattle.model.specs.Refusals.{accepted, refused, openTable}
 use Rattle.model.proofs.Logic.{by-cases, or-true-right}
-use Rattle.model.proofs.Sizes.{D-rises}
+use Rattle.model.proofs.Sizes.{D-rises, capacity-small}
 use Rattle.sizes.specs.Sizes.{levelsFor, wordsFor, visitsWithin, visitsFor}
 use Rattle.sizes.proofs.Thresholds.{least, level, level-none}
 
@@ -32,6 +32,9 @@ pub levelsFor-most : (c : ℕ) → levelsFor c ≤ 38
 levelsFor-most c =
     omega (arith, D-rises (min c largestCapacity) largestCapacity (omega arith), level 38 largestCapacity (omega arith) (omega arith) (omega arith))
 
+pub levelsFor-few : (c d : ℕ) → d ≡ levelsFor c → d ≤ 38
+levelsFor-few c d e = omega (arith, levelsFor-most c)
+
 -- no product of a word and a level's words overflows
 pub words-fit : (c d : ℕ) → c < 2 ^ 32 → d ≤ 38 → c * (32 + 16 * d) ≤ 2 ^ 32 * 640
 words-fit c d h k =
@@ -43,30 +46,11 @@ words-fit c d h k =
 pub visits-fit : (d : ℕ) → d ≤ 38 → (4 * d + 1) * (2 * d + 1) ≤ 11781
 visits-fit d h = mul-le-mul {n₁ = 4 * d + 1} {m₁ = 2 * d + 1} {n₂ = 153} {m₂ = 77} (omega arith) (omega arith)
 
--- the two ways out of range
-outside-none : capacityOutside 0 ≡ true
-unfolding capacityOutside
-outside-none = refl
-
-outside-past : (c : ℕ) → largestCapacity < c → capacityOutside c ≡ true
-unfolding capacityOutside
-outside-past c h = or-true-right (eqb c 0) (ltb largestCapacity c) (lt-ltb largestCapacity c h)
-
-inside : (c : ℕ) → c ≢ 0 → c ≤ largestCapacity → capacityOutside c ≡ false
-unfolding capacityOutside
-inside c h k = rw (ne-eqb c 0 h, le-ltb largestCapacity c k)
-
-pub size-none : (0 ≡ wordsFor 0) × (0 ≡ visitsFor 0)
-size-none = rw outside-none (refl, refl)
-
-pub size-past : (c : ℕ) → largestCapacity < c → (0 ≡ wordsFor c) × (0 ≡ visitsFor c)
-size-past c h = rw (outside-past c h) (refl, refl)
-
 -- in range, by the levels
-pub size-within : (c d : ℕ) → c ≢ 0 → c ≤ largestCapacity → d ≡ levelsFor c
+pub size-within : (c d : ℕ) → capacityOutside c ≡ false → d ≡ levelsFor c
     → (64 + c * (32 + 16 * d) ≡ wordsFor c) × ((4 * d + 1) * (2 * d + 1) ≡ visitsFor c)
 unfolding W visitsWithin
-size-within c d h k e = rw (inside c h k, e, levelsFor-within c k) (refl, refl)
+size-within c d h e = rw (h, e, levelsFor-within c (capacity-small c h)) (refl, refl)
 
 -- opening by the words that the capacity needs, none where it is out of range
 module _ (c lent : ℕ) where

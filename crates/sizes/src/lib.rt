@@ -1,6 +1,8 @@
 // How many levels and words a table needs for its capacity (document 01, "Marks, boxes, tables").
 ghost use mathlib.Core.Path.{_≡_};
+ghost use Prim.Native.Nat.{_+_, _*_, _≤_};
 ghost use Rattle.model.specs.Refusals.{openTable};
+ghost use Rattle.model.specs.Sizes.{capacityOutside};
 ghost use Rattle.sizes.specs.Sizes.{levelsFor, wordsFor, visitsFor, openingOutcome};
 
 // The largest capacity.
@@ -66,24 +68,37 @@ pub fn levels(capacity: u32) -> u32
     }
 }
 
+// Whether a capacity is out of its range.
+fn is_outside(capacity: u32) -> bool
+    ensures { λ r. ⌜ r ≡ capacityOutside capacity ⌝ }
+{
+    if capacity == 0 {
+        return true;
+    }
+    LARGEST_CAPACITY < capacity
+}
+
+// W(C) by its levels.
+fn words_by(capacity: u32, levels: u32) -> usize
+    requires { ⌜ levels ≤ 38 ⌝ }
+    ensures { λ r. ⌜ r ≡ 64 + capacity * (32 + 16 * levels) ⌝ }
+{
+    64 + (capacity as usize) * (32 + 16 * (levels as usize))
+}
+
 pub fn size_for(capacity: u32) -> Size
     ensures { λ r. ⌜ (r .words ≡ wordsFor capacity) × (r .visits ≡ visitsFor capacity) ⌝ }
 {
-    if capacity == 0 {
-        return Size {
-            words: 0,
-            visits: 0,
-        };
-    }
-    if LARGEST_CAPACITY < capacity {
+    if is_outside(capacity) {
         return Size {
             words: 0,
             visits: 0,
         };
     }
     let d = levels(capacity);
+    let words = words_by(capacity, d);
     Size {
-        words: 64 + (capacity as usize) * (32 + 16 * (d as usize)),
+        words,
         visits: (4 * d + 1) * (2 * d + 1),
     }
 }
@@ -92,8 +107,10 @@ pub fn size_for(capacity: u32) -> Size
 pub fn words(capacity: u32) -> usize
     ensures { λ r. ⌜ r ≡ wordsFor capacity ⌝ }
 {
-    let needed = size_for(capacity);
-    needed.words
+    if is_outside(capacity) {
+        return 0;
+    }
+    words_by(capacity, levels(capacity))
 }
 
 // Whether a run of `lent` words can be opened for the capacity.

@@ -4,10 +4,9 @@ ghost use mathlib.Core.Path.{_≡_};
 ghost use lib.Dec.{eqb};
 ghost use lib.ListN.{getD, set};
 ghost use Rattle.table.specs.Layout.{openPlace, capacityPlace, livePlace};
-ghost use Rattle.table.specs.Header.{ownWords, ownVisits};
+ghost use Rattle.table.specs.Header.{capacityOf, liveOf, ownWords, ownVisits};
 use crate::layout;
 use crate::words;
-use sizes::Size;
 
 // Whether word 0 says that the table is open.
 pub fn is_open(t: &[u32]) -> bool
@@ -46,37 +45,51 @@ pub fn put_live(t: &mut [u32], live: u32)
     words::put_word(t, layout::LIVE, live);
 }
 
-// The table's own words, W(C) of those lent, and the most visits of a count in it; 0 and 0 where 3 applies.
-pub fn own(t: &[u32]) -> Size
-    ensures { λ r. ⌜ (r .words ≡ ownWords (now (t .entry))) × (r .visits ≡ ownVisits (now (t .entry))) ⌝ }
+// What the header of a table says: its capacity, its live marks, its own words, W(C) of those lent, and the most visits of a count in it.
+pub struct Header {
+    pub capacity: u32,
+    pub live: u32,
+    pub words: usize,
+    pub visits: u32,
+}
+
+// Where 3 applies: no words.
+fn no_table() -> Header
+    ensures { λ r. ⌜ (r .words ≡ 0) × (r .visits ≡ 0) ⌝ }
+{
+    Header {
+        capacity: 0,
+        live: 0,
+        words: 0,
+        visits: 0,
+    }
+}
+
+pub fn own(t: &[u32]) -> Header
+    ensures sizes { λ r. ⌜ (r .words ≡ ownWords (now (t .entry))) × (r .visits ≡ ownVisits (now (t .entry))) ⌝ }
+    ensures says { λ r. ⌜ ((r .words ≡ 0 → ⊥) → (r .capacity ≡ capacityOf (now (t .entry))) × (r .live ≡ liveOf (now (t .entry)))) ⌝ }
 {
     if t.len() < layout::SHORTEST {
-        return Size {
-            words: 0,
-            visits: 0,
-        };
+        return no_table();
     }
     if is_open(t) {
         let capacity = capacity(t);
         let needed = sizes::size_for(capacity);
         if t.len() < needed.words {
-            return Size {
-                words: 0,
-                visits: 0,
-            };
+            return no_table();
         }
-        if capacity < live(t) {
-            return Size {
-                words: 0,
-                visits: 0,
-            };
+        let live = live(t);
+        if capacity < live {
+            return no_table();
         }
-        return needed;
+        return Header {
+            capacity,
+            live,
+            words: needed.words,
+            visits: needed.visits,
+        };
     }
-    Size {
-        words: 0,
-        visits: 0,
-    }
+    no_table()
 }
 
 pub fn own_words(t: &[u32]) -> usize

@@ -1,5 +1,5 @@
-// The words of a table (docs/LAYOUT.md): reading and writing them. A word past the end reads as 0 and is not written, so every function here is total on
-// every run of words. A mark has one test for all its words.
+// The words of a table (docs/LAYOUT.md): reading and writing them. Marks of slots and the runs are read and written where the caller knows them to be there.
+// Every other word is tested: past the end it reads as 0 and is not written; a mark of a list has one test for all its words.
 pub mod header;
 pub mod layout;
 pub mod limits;

@@ -4,36 +4,32 @@ use Rattle.primary_search.specs.Count.{handOver♯}
 use borrow.Author.Tests.{le-ltb, lt-ltb}
 use Rattle.primary_search.proofs.count.hand_over.Tie as tie
 
--- src/count.rt:39:36
+-- src/count.rt:40:36
 mul-if1 : tie.Need-mul-if1
 mul-if1 c = search needs
 
--- src/count.rt:39:18
+-- src/count.rt:40:18
 add-if1 : tie.Need-add-if1
 add-if1 c = search needs
 
--- src/count.rt:40:9
-lost-requires : tie.Need-lost-requires
-lost-requires c κs = search needs
-
--- src/count.rt:40:9
+-- src/count.rt:41:9
 returns : tie.Need-returns
 unfolding handOver♯
-returns c = rw (lt-ltb _ _ (c .before .if1 .taken), ← c .lost .ensures)
+returns c = rw (lt-ltb _ _ (c .if1 .taken))
 
--- src/count.rt:42:9
+-- src/count.rt:43:9
 load-auxiliary-requires : tie.Need-load-auxiliary-requires
 load-auxiliary-requires c κs = search needs
 
--- src/count.rt:49:67
+-- src/count.rt:50:9
 visit-requires : tie.Need-visit-requires
 visit-requires c κs = search needs
 
--- src/count.rt:49:5
+-- src/count.rt:51:9
 count-requires : tie.Need-count-requires
 count-requires c κs = search needs
 
--- src/count.rt:35:1
+-- src/count.rt:36:1
 returns-2 : tie.Need-returns-2
 unfolding handOver♯
 returns-2 c =
@@ -52,7 +48,6 @@ hand-over-spec =
     (tie.spec
     mul-if1
     add-if1
-    lost-requires
     returns
     load-auxiliary-requires
     visit-requires

@@ -1,24 +1,28 @@
-use borrow.Author.Needs.{needs}
-use borrow.Author.Tests.{le-leb, lt-leb}
-use Rattle.primary_search.specs.Count.{handed♯}
 use Rattle.primary_search.proofs.Counting.{hand-over-by-y}
+use borrow.Author.Needs.{needs}
 use Rattle.primary_search.proofs.count.handed.Statement.{statement}
+use Rattle.primary_search.specs.Count.{handed♯}
+use borrow.Author.Tests.{le-leb, lt-leb}
 use Rattle.primary_search.proofs.count.handed.Tie as tie
 
--- src/count.rt:58:13
+-- src/count.rt:60:9
 slot-requires : tie.Need-slot-requires
 slot-requires c κs = search needs
 
--- src/count.rt:60:9
+-- src/count.rt:62:9
+lost-requires : tie.Need-lost-requires
+lost-requires c κs = search needs
+
+-- src/count.rt:62:9
 returns : tie.Need-returns
 unfolding handed♯
-returns c = rw (← c .before .slot .ensures, le-leb _ _ (c .if1 .taken))
+returns c = rw (← c .before .before .slot .ensures, le-leb _ _ (c .before .if1 .taken), ← c .lost .ensures)
 
--- src/count.rt:63:8
+-- src/count.rt:64:8
 is-leaf-requires : tie.Need-is-leaf-requires
 is-leaf-requires c κs = search needs
 
--- src/count.rt:64:21
+-- src/count.rt:65:9
 leaf-requires : tie.Need-leaf-requires
 leaf-requires c κs = search needs
 
@@ -37,11 +41,11 @@ returns-2 c =
       ← c .leaf .ensures,
     )
 
--- src/count.rt:67:17
+-- src/count.rt:67:11
 hand-over-requires : tie.Need-hand-over-requires
 hand-over-requires c κs = search needs
 
--- src/count.rt:54:1
+-- src/count.rt:56:1
 returns-3 : tie.Need-returns-3
 unfolding handed♯
 returns-3 c =
@@ -54,4 +58,12 @@ returns-3 c =
 pub handed-spec : {M : Type 1} → statement M
 handed-spec =
     tie.close
-    (tie.spec slot-requires returns is-leaf-requires leaf-requires returns-2 hand-over-requires returns-3)
+    (tie.spec
+    slot-requires
+    lost-requires
+    returns
+    is-leaf-requires
+    leaf-requires
+    returns-2
+    hand-over-requires
+    returns-3)

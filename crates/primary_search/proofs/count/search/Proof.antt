@@ -1,136 +1,224 @@
-use borrow.Author.Needs.{needs}
-use Rattle.primary_search.proofs.count.search.Statement.{statement}
-use Rattle.primary_search.specs.Count.{mainSearch♯}
+use Rattle.primary_search.proofs.Counting.{hand-over-by-y}
 use Rattle.nodes.specs.Count.{countTree}
+use Rattle.primary_search.proofs.count.search.Statement.{statement}
+use borrow.Author.Tests.{le-leb, lt-leb}
+use Rattle.primary_search.specs.Count.{handed♯, mainSearch♯}
+use borrow.Author.Needs.{needs}
 use Rattle.primary_search.proofs.count.search.Tie as tie
 
--- src/count.rt:212:8
-inside-x-requires : tie.Need-inside-x-requires
-inside-x-requires c κs = search needs
+-- src/count.rt:216:9
+slot-requires : tie.Need-slot-requires
+slot-requires c κs = search needs
 
--- src/count.rt:213:9
-handed-requires : tie.Need-handed-requires
-handed-requires c κs = search needs
+-- src/count.rt:218:9
+lost-requires : tie.Need-lost-requires
+lost-requires c κs = search needs
 
--- src/count.rt:213:9
+-- src/count.rt:218:9
 returns : tie.Need-returns
-unfolding mainSearch♯ countTree
-returns c =
-    rw (← c .before .before .inside-x .ensures, c .before .if1 .taken, ← c .handed .ensures)
+unfolding mainSearch♯
+returns c = rw (← c .before .before .slot .ensures, le-leb _ _ (c .before .if1 .taken), ← c .lost .ensures)
 
--- src/count.rt:215:8
-before-x-requires : tie.Need-before-x-requires
-before-x-requires c κs = search needs
+-- src/count.rt:220:8
+is-leaf-requires : tie.Need-is-leaf-requires
+is-leaf-requires c κs = search needs
 
--- src/count.rt:216:16
+-- src/count.rt:221:30
 none-requires : tie.Need-none-requires
 none-requires c κs = search needs
 
--- src/count.rt:216:9
-before-requires : tie.Need-before-requires
-before-requires c κs = search needs
+-- src/count.rt:221:9
+leaf-requires : tie.Need-leaf-requires
+leaf-requires c κs = search needs
 
--- src/count.rt:216:9
+-- src/count.rt:221:9
 returns-2 : tie.Need-returns-2
-unfolding mainSearch♯ countTree
+unfolding mainSearch♯
 returns-2 c =
     let at-if2 = c .before .before in
-    let at-before-x = at-if2 .before in
-    let at-if1 = at-before-x .before in
-    let at-inside-x = at-if1 .before in
+    let at-is-leaf = at-if2 .before in
+    let at-if1 = at-is-leaf .before in
+    let at-slot = at-if1 .before in
     rw (
-      ← at-inside-x .inside-x .ensures,
-      at-if1 .if1 .left,
-      ← at-before-x .before-x .ensures,
+      ← at-slot .slot .ensures,
+      lt-leb _ _ (at-if1 .if1 .left),
+      ← at-is-leaf .is-leaf .ensures,
       at-if2 .if2 .taken,
-      c .before2 .ensures,
-      c .before .none .ensures,
+      ← c .before .none .ensures,
+      ← c .leaf .ensures,
     )
 
--- src/count.rt:218:8
-past-x-requires : tie.Need-past-x-requires
-past-x-requires c κs = search needs
+-- src/count.rt:223:8
+inside-x-requires : tie.Need-inside-x-requires
+inside-x-requires c κs = search needs
 
--- src/count.rt:219:16
+-- src/count.rt:224:22
+hand-over-requires : tie.Need-hand-over-requires
+hand-over-requires c κs = search needs
+
+-- src/count.rt:224:9
+returns-3 : tie.Need-returns-3
+unfolding mainSearch♯ countTree handed♯
+returns-3 c =
+    let at-inside-x = c .before .before in
+    let at-if2 = at-inside-x .before in
+    let at-is-leaf = at-if2 .before in
+    let at-if1 = at-is-leaf .before in
+    let at-slot = at-if1 .before in
+    rw (
+      ← at-slot .slot .ensures,
+      lt-leb _ _ (at-if1 .if1 .left),
+      ← at-is-leaf .is-leaf .ensures,
+      at-if2 .if2 .left,
+      ← at-inside-x .inside-x .ensures,
+      c .before .if3 .taken,
+    )
+    (hand-over-by-y _ _ _ _ _ _ _ (c .hand-over .ensures))
+
+-- src/count.rt:226:8
+before-x-requires : tie.Need-before-x-requires
+before-x-requires c κs = search needs
+
+-- src/count.rt:227:16
 none-requires-2 : tie.Need-none-requires-2
 none-requires-2 c κs = search needs
 
--- src/count.rt:219:9
-past-requires : tie.Need-past-requires
-past-requires c κs = search needs
+-- src/count.rt:227:9
+before-requires : tie.Need-before-requires
+before-requires c κs = search needs
 
--- src/count.rt:219:9
-returns-3 : tie.Need-returns-3
-unfolding mainSearch♯ countTree
-returns-3 c =
-    let at-if3 = c .before .before in
-    let at-past-x = at-if3 .before in
-    let at-if2 = at-past-x .before in
-    let at-before-x = at-if2 .before in
-    let at-if1 = at-before-x .before in
-    let at-inside-x = at-if1 .before in
-    rw (
-      ← at-inside-x .inside-x .ensures,
-      at-if1 .if1 .left,
-      ← at-before-x .before-x .ensures,
-      at-if2 .if2 .left,
-      ← at-past-x .past-x .ensures,
-      at-if3 .if3 .taken,
-      c .past .ensures,
-      c .before .none2 .ensures,
-    )
-
--- src/count.rt:221:46
-none-requires-3 : tie.Need-none-requires-3
-none-requires-3 c κs = search needs
-
--- src/count.rt:221:46
-visit-requires : tie.Need-visit-requires
-visit-requires c κs = search needs
-
--- src/count.rt:221:5
-opened-requires : tie.Need-opened-requires
-opened-requires c κs = search needs
-
--- src/count.rt:208:1
+-- src/count.rt:227:9
 returns-4 : tie.Need-returns-4
 unfolding mainSearch♯ countTree
 returns-4 c =
-    let at-none3 = c .before .before in
-    let at-if3 = at-none3 .before in
-    let at-past-x = at-if3 .before in
-    let at-if2 = at-past-x .before in
-    let at-before-x = at-if2 .before in
-    let at-if1 = at-before-x .before in
-    let at-inside-x = at-if1 .before in
+    let at-if4 = c .before .before in
+    let at-before-x = at-if4 .before in
+    let at-if3 = at-before-x .before in
+    let at-inside-x = at-if3 .before in
+    let at-if2 = at-inside-x .before in
+    let at-is-leaf = at-if2 .before in
+    let at-if1 = at-is-leaf .before in
+    let at-slot = at-if1 .before in
     rw (
-      ← at-inside-x .inside-x .ensures,
-      at-if1 .if1 .left,
-      ← at-before-x .before-x .ensures,
+      ← at-slot .slot .ensures,
+      lt-leb _ _ (at-if1 .if1 .left),
+      ← at-is-leaf .is-leaf .ensures,
       at-if2 .if2 .left,
-      ← at-past-x .past-x .ensures,
+      ← at-inside-x .inside-x .ensures,
       at-if3 .if3 .left,
+      ← at-before-x .before-x .ensures,
+      at-if4 .if4 .taken,
+      c .before2 .ensures,
+      c .before .none2 .ensures,
+    )
+
+-- src/count.rt:229:8
+past-x-requires : tie.Need-past-x-requires
+past-x-requires c κs = search needs
+
+-- src/count.rt:230:16
+none-requires-3 : tie.Need-none-requires-3
+none-requires-3 c κs = search needs
+
+-- src/count.rt:230:9
+past-requires : tie.Need-past-requires
+past-requires c κs = search needs
+
+-- src/count.rt:230:9
+returns-5 : tie.Need-returns-5
+unfolding mainSearch♯ countTree
+returns-5 c =
+    let at-if5 = c .before .before in
+    let at-past-x = at-if5 .before in
+    let at-if4 = at-past-x .before in
+    let at-before-x = at-if4 .before in
+    let at-if3 = at-before-x .before in
+    let at-inside-x = at-if3 .before in
+    let at-if2 = at-inside-x .before in
+    let at-is-leaf = at-if2 .before in
+    let at-if1 = at-is-leaf .before in
+    let at-slot = at-if1 .before in
+    rw (
+      ← at-slot .slot .ensures,
+      lt-leb _ _ (at-if1 .if1 .left),
+      ← at-is-leaf .is-leaf .ensures,
+      at-if2 .if2 .left,
+      ← at-inside-x .inside-x .ensures,
+      at-if3 .if3 .left,
+      ← at-before-x .before-x .ensures,
+      at-if4 .if4 .left,
+      ← at-past-x .past-x .ensures,
+      at-if5 .if5 .taken,
+      c .past .ensures,
+      c .before .none3 .ensures,
+    )
+
+-- src/count.rt:232:38
+none-requires-4 : tie.Need-none-requires-4
+none-requires-4 c κs = search needs
+
+-- src/count.rt:232:38
+visit-requires : tie.Need-visit-requires
+visit-requires c κs = search needs
+
+-- src/count.rt:232:5
+opened-requires : tie.Need-opened-requires
+opened-requires c κs = search needs
+
+-- src/count.rt:211:1
+returns-6 : tie.Need-returns-6
+unfolding mainSearch♯ countTree
+returns-6 c =
+    let at-none4 = c .before .before in
+    let at-if5 = at-none4 .before in
+    let at-past-x = at-if5 .before in
+    let at-if4 = at-past-x .before in
+    let at-before-x = at-if4 .before in
+    let at-if3 = at-before-x .before in
+    let at-inside-x = at-if3 .before in
+    let at-if2 = at-inside-x .before in
+    let at-is-leaf = at-if2 .before in
+    let at-if1 = at-is-leaf .before in
+    let at-slot = at-if1 .before in
+    rw (
+      ← at-slot .slot .ensures,
+      lt-leb _ _ (at-if1 .if1 .left),
+      ← at-is-leaf .is-leaf .ensures,
+      at-if2 .if2 .left,
+      ← at-inside-x .inside-x .ensures,
+      at-if3 .if3 .left,
+      ← at-before-x .before-x .ensures,
+      at-if4 .if4 .left,
+      ← at-past-x .past-x .ensures,
+      at-if5 .if5 .left,
       c .opened .ensures,
       c .before .visit .ensures,
-      at-none3 .none3 .ensures,
+      at-none4 .none4 .ensures,
     )
 
 pub search-spec : {M : Type 1} → statement M
 search-spec =
     tie.close
     (tie.spec
-    inside-x-requires
-    handed-requires
+    slot-requires
+    lost-requires
     returns
-    before-x-requires
+    is-leaf-requires
     none-requires
-    before-requires
+    leaf-requires
     returns-2
-    past-x-requires
-    none-requires-2
-    past-requires
+    inside-x-requires
+    hand-over-requires
     returns-3
+    before-x-requires
+    none-requires-2
+    before-requires
+    returns-4
+    past-x-requires
     none-requires-3
+    past-requires
+    returns-5
+    none-requires-4
     visit-requires
     opened-requires
-    returns-4)
+    returns-6)

@@ -6,9 +6,6 @@ use Rattle.register.specs.Mirrors.{countOwn♯, tallied}
 use Rattle.register.proofs.count.count_own.Statement.{statement}
 use Rattle.register.proofs.count.count_own.Tie as tie
 
-capacity-requires : tie.Need-capacity-requires
-capacity-requires c κs = search needs
-
 count-requires : tie.Need-count-requires
 count-requires c κs = search needs
 
@@ -19,46 +16,43 @@ returns : tie.Need-returns
 unfolding countOwn♯ tallied
 returns c =
     let at-count = c .before .before in
-    rw (← count-read _ _ (at-count .before .capacity .ensures) _ _ (at-count .count .ensures), ← c .before .visits .ensures, lt-ltb _ _ (c .if1 .taken))
+    rw (← count-read _ _ (at-count .before .before .pre .0 .0) _ _ (at-count .count .ensures), ← c .before .visits .ensures, lt-ltb _ _ (c .if1 .taken))
 
 found-requires : tie.Need-found-requires
 found-requires c κs = search needs
 
-live-requires : tie.Need-live-requires
-live-requires c κs = search needs
-
 returns-2 : tie.Need-returns-2
 unfolding countOwn♯ tallied
 returns-2 c =
-    let at-found = c .before .before in
+    let at-found = c .before in
     let at-if1 = at-found .before in
     let at-visits = at-if1 .before in
     let at-count = at-visits .before in
     rw (
-      ← count-read _ _ (at-count .before .capacity .ensures) _ _ (at-count .count .ensures),
+      ← count-read _ _ (at-count .before .before .pre .0 .0) _ _ (at-count .count .ensures),
       ← at-visits .visits .ensures,
       le-ltb _ _ (at-if1 .if1 .left),
       ← at-found .found .ensures,
-      ← c .before .live .ensures,
+      ← at-count .before .before .pre .1,
       lt-ltb _ _ (c .if2 .taken),
     )
 
 returns-3 : tie.Need-returns-3
 unfolding countOwn♯ tallied
 returns-3 c =
-    let at-found = c .before .before in
+    let at-found = c .before in
     let at-if1 = at-found .before in
     let at-visits = at-if1 .before in
     let at-count = at-visits .before in
     rw (
-      ← count-read _ _ (at-count .before .capacity .ensures) _ _ (at-count .count .ensures),
+      ← count-read _ _ (at-count .before .before .pre .0 .0) _ _ (at-count .count .ensures),
       ← at-visits .visits .ensures,
       le-ltb _ _ (at-if1 .if1 .left),
       ← at-found .found .ensures,
-      ← c .before .live .ensures,
+      ← at-count .before .before .pre .1,
       le-ltb _ _ (c .if2 .left),
     )
 
 pub count-own-spec : {M : Type 1} → statement M
 count-own-spec =
-    tie.close (tie.spec capacity-requires count-requires visits-requires returns found-requires live-requires returns-2 returns-3)
+    tie.close (tie.spec count-requires visits-requires returns found-requires returns-2 returns-3)

@@ -2,7 +2,7 @@
 use mathlib.Core.Path.{sym, ap, _∙_}
 use native.Mathlib.Omega.{arith}
 use Rattle.geometry.specs.Values.{boxOutcome}
-use Rattle.register.proofs.Own.{own-fits, part-room}
+use Rattle.register.proofs.Own.{own-fits, part-capacity, part-live}
 use Rattle.register.proofs.Branches.{count-not-table, count-crossed, count-own}
 use borrow.Author.Needs.{needs}
 use Rattle.register.proofs.count.counted.Statement.{statement}
@@ -12,7 +12,7 @@ own-requires : tie.Need-own-requires
 own-requires c κs = search needs
 
 returns : tie.Need-returns
-returns c = count-not-table _ _ (c .before .own .ensures .0) _ (c .if1 .taken)
+returns c = count-not-table _ _ (c .before .own .ensures .0 .0) _ (c .if1 .taken)
 
 new-requires : tie.Need-new-requires
 new-requires c κs = search needs
@@ -33,21 +33,26 @@ part-count-own-end : tie.Need-part-count-own-end
 part-count-own-end c =
     let at-own = c .before .before .before .before .before in
     let at-start = at-own .before .before in
-    omega (arith, at-own .own .ensures .0, own-fits (at-start .args .table .now))
+    omega (arith, at-own .own .ensures .0 .0, own-fits (at-start .args .table .now))
 
 count-own-requires : tie.Need-count-own-requires
 count-own-requires c κs =
     let at-if1 = c .before .before .before .before .before in
     let at-own = at-if1 .before in
     let at-start = at-own .before .before in
-    part-room (at-start .args .table .now) _ (at-own .own .ensures .0) (at-if1 .if1 .left)
+    let own = at-own .own .ensures in
+    let says = own .1 (at-if1 .if1 .left) in
+    let t = at-start .args .table .now in (
+      part-capacity t _ (own .0 .0) (at-if1 .if1 .left) _ (says .0),
+      part-live t _ (own .0 .0) (at-if1 .if1 .left) _ (says .1) .0,
+    )
 
 returns-2 : tie.Need-returns-2
 returns-2 c =
     let at-new = c .before .before in
     let at-if1 = at-new .before in
     let at-own = at-if1 .before in
-    count-crossed _ _ (at-own .own .ensures .0) _ (at-if1 .if1 .left) 6
+    count-crossed _ _ (at-own .own .ensures .0 .0) _ (at-if1 .if1 .left) 6
     (sym (at-new .new .ensures) ∙ ap boxOutcome (c .enum-told .given .1))
 
 returns-3 : tie.Need-returns-3
@@ -57,7 +62,7 @@ returns-3 c =
     let at-if1 = at-new .before in
     let at-own = at-if1 .before in
     let own = at-own .own .ensures in
-    count-own _ _ (own .0) _ (at-if1 .if1 .left) _ (own .1) _
+    count-own _ _ (own .0 .0) _ (at-if1 .if1 .left) _ (own .0 .1) _
     (sym (at-new .new .ensures) ∙ ap boxOutcome (at-b .b .given .1)) _ (c .count-own .ensures)
 
 pub counted-spec : {M : Type 1} → statement M

@@ -5,9 +5,6 @@ use borrow.Author.Needs.{needs}
 use Rattle.register.proofs.insert.insert_own.Statement.{statement}
 use Rattle.register.proofs.insert.insert_own.Tie as tie
 
-capacity-requires : tie.Need-capacity-requires
-capacity-requires c κs = search needs
-
 -- src/insert.rt:22:9
 find-requires : tie.Need-find-requires
 find-requires c κs = search needs
@@ -27,7 +24,7 @@ returns c =
     let at-close = c .before .before in
     let at-if1 = at-close .before .before in
     let at-find = at-if1 .before in
-    rw (← find-read _ _ (at-find .before .before .capacity .ensures) _ _ (at-find .find .ensures), eq-eqb _ _ (at-if1 .if1 .taken), ← at-close .close .ensures)
+    rw (← find-read _ _ (at-find .before .before .before .pre .0) _ _ (at-find .find .ensures), eq-eqb _ _ (at-if1 .if1 .taken), ← at-close .close .ensures)
 
 -- src/insert.rt:27:13
 live-requires : tie.Need-live-requires
@@ -46,11 +43,11 @@ returns-2 c =
     let at-if1 = at-if2 .before in
     let at-find = at-if1 .before in
     rw (
-      ← find-read _ _ (at-find .before .before .capacity .ensures) _ _ (at-find .find .ensures),
+      ← find-read _ _ (at-find .before .before .before .pre .0) _ _ (at-find .find .ensures),
       ne-eqb _ _ (at-if1 .if1 .left),
       eq-eqb _ _ (at-if2 .if2 .taken),
       ← at-live .live .ensures,
-      ← at-find .before .before .capacity .ensures,
+      ← at-find .before .before .before .pre .0,
       eq-eqb _ _ (c .if3 .taken),
     )
 
@@ -78,11 +75,11 @@ returns-3 c =
     let at-if1 = at-if2 .before in
     let at-find = at-if1 .before in
     rw (
-      ← find-read _ _ (at-find .before .before .capacity .ensures) _ _ (at-find .find .ensures),
+      ← find-read _ _ (at-find .before .before .before .pre .0) _ _ (at-find .find .ensures),
       ne-eqb _ _ (at-if1 .if1 .left),
       eq-eqb _ _ (at-if2 .if2 .taken),
       ← at-live .live .ensures,
-      ← at-find .before .before .capacity .ensures,
+      ← at-find .before .before .before .pre .0,
       ne-eqb _ _ (at-if3 .if3 .left),
       ← at-insert .insert .ensures,
       ← at-settle .settle .ensures,
@@ -95,13 +92,12 @@ same-length-4 c = search needs
 -- src/insert.rt:19:1
 returns-4 : tie.Need-returns-4
 unfolding insertOwn♯ insertFound
-returns-4 c = rw (← find-read _ _ (c .before .before .before .before .capacity .ensures) _ _ (c .before .before .find .ensures), ne-eqb _ _ (c .before .if1 .left), ne-eqb _ _ (c .if2 .left))
+returns-4 c = rw (← find-read _ _ (c .before .before .before .before .before .pre .0) _ _ (c .before .before .find .ensures), ne-eqb _ _ (c .before .if1 .left), ne-eqb _ _ (c .if2 .left))
 
 pub insert-own-spec : {M : Type 1} → statement M
 insert-own-spec =
     tie.close
     (tie.spec
-    capacity-requires
     find-requires
     close-requires
     same-length

@@ -2,15 +2,15 @@ use Rattle.register.specs.Mirrors.{insert♯, insertOwn♯}
 use mathlib.Core.Path.{sym, ap, _∙_}
 use native.Mathlib.Omega.{arith}
 use Rattle.geometry.specs.Values.{markOutcome}
-use Rattle.register.proofs.Own.{own-fits, part-room}
+use Rattle.register.proofs.Own.{own-fits, part-capacity}
 use Rattle.register.proofs.Branches.{update-not-table, update-outside, update-own}
 use borrow.Author.Needs.{needs}
 use Rattle.register.proofs.insert.inserted.Statement.{statement}
 use Rattle.register.proofs.insert.inserted.Tie as tie
 
 -- src/insert.rt:39:9
-own-words-requires : tie.Need-own-words-requires
-own-words-requires c κs = search needs
+own-requires : tie.Need-own-requires
+own-requires c κs = search needs
 
 -- src/insert.rt:41:9
 same-length : tie.Need-same-length
@@ -19,7 +19,7 @@ same-length c = search needs
 -- src/insert.rt:41:9
 returns : tie.Need-returns
 unfolding insert♯
-returns c = update-not-table _ _ (c .before .own-words .ensures) insertOwn♯ _ (c .if1 .taken)
+returns c = update-not-table _ _ (c .before .own .ensures .0 .0) insertOwn♯ _ (c .if1 .taken)
 
 -- src/insert.rt:43:11
 new-requires : tie.Need-new-requires
@@ -44,18 +44,18 @@ part-insert-own-start c = search needs
 -- src/insert.rt:45:41
 part-insert-own-end : tie.Need-part-insert-own-end
 part-insert-own-end c =
-    let at-own-words = c .before .before .before .before .before in
-    let at-start = at-own-words .before .before .before in
-    omega (arith, at-own-words .own-words .ensures, own-fits (at-start .args .table .now))
+    let at-own = c .before .before .before .before .before in
+    let at-start = at-own .before .before .before in
+    omega (arith, at-own .own .ensures .0 .0, own-fits (at-start .args .table .now))
 
 -- src/insert.rt:45:30
 insert-own-requires : tie.Need-insert-own-requires
 insert-own-requires c κs =
     let at-m = c .before .before in
     let at-if1 = at-m .before .before .before in
-    let at-own-words = at-if1 .before in
-    let at-start = at-own-words .before .before .before in
-    part-room (at-start .args .table .now) _ (at-own-words .own-words .ensures) (at-if1 .if1 .left)
+    let at-own = at-if1 .before in
+    let at-start = at-own .before .before .before in
+    part-capacity (at-start .args .table .now) _ (at-own .own .ensures .0 .0) (at-if1 .if1 .left) _ (at-own .own .ensures .1 (at-if1 .if1 .left) .0)
 
 -- src/insert.rt:36:1
 same-length-2 : tie.Need-same-length-2
@@ -67,8 +67,8 @@ unfolding insert♯
 returns-2 c =
     let at-new = c .before .before in
     let at-if1 = at-new .before in
-    let at-own-words = at-if1 .before in
-    update-outside _ _ (at-own-words .own-words .ensures) insertOwn♯ _ (at-if1 .if1 .left) 5
+    let at-own = at-if1 .before in
+    update-outside _ _ (at-own .own .ensures .0 .0) insertOwn♯ _ (at-if1 .if1 .left) 5
     (sym (at-new .new .ensures) ∙ ap markOutcome (c .enum-told .given .1))
 
 -- src/insert.rt:36:1
@@ -83,15 +83,15 @@ returns-3 c =
     let at-m = at-insert-own .before .before .before in
     let at-new = at-m .before .before in
     let at-if1 = at-new .before in
-    let at-own-words = at-if1 .before in
-    update-own _ _ (at-own-words .own-words .ensures) insertOwn♯ _ (at-if1 .if1 .left) _
+    let at-own = at-if1 .before in
+    update-own _ _ (at-own .own .ensures .0 .0) insertOwn♯ _ (at-if1 .if1 .left) _
     (sym (at-new .new .ensures) ∙ ap markOutcome (at-m .m .given .1)) _ _ (at-insert-own .insert-own .ensures)
 
 pub inserted-spec : {M : Type 1} → statement M
 inserted-spec =
     tie.close
     (tie.spec
-    own-words-requires
+    own-requires
     same-length
     returns
     new-requires

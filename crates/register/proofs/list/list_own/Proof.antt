@@ -7,9 +7,6 @@ use borrow.Author.Needs.{needs}
 use Rattle.register.proofs.list.list_own.Statement.{statement}
 use Rattle.register.proofs.list.list_own.Tie as tie
 
-capacity-requires : tie.Need-capacity-requires
-capacity-requires c κs = search needs
-
 count-requires : tie.Need-count-requires
 count-requires c κs = search needs
 
@@ -19,22 +16,20 @@ visits-requires c κs = search needs
 returns : tie.Need-returns
 returns c =
     let at-count = c .before .before in
-    list-lost _ _ _ _ _ _ _ _ (count-read _ _ (at-count .before .capacity .ensures) _ _ (at-count .count .ensures)) (c .before .visits .ensures) refl (c .if1 .taken)
+    let start = at-count .before .before .before .before in
+    list-lost _ _ _ _ _ _ _ _ (count-read _ _ (start .pre .0 .0) _ _ (at-count .count .ensures)) (c .before .visits .ensures) refl (c .if1 .taken)
 
 found-requires : tie.Need-found-requires
 found-requires c κs = search needs
 
-live-requires : tie.Need-live-requires
-live-requires c κs = search needs
-
 returns-2 : tie.Need-returns-2
 returns-2 c =
-    let at-live = c .before in
-    let at-found = at-live .before in
+    let at-found = c .before in
     let at-visits = at-found .before .before in
     let at-count = at-visits .before in
-    list-many _ _ _ _ _ _ _ _ (count-read _ _ (at-count .before .capacity .ensures) _ _ (at-count .count .ensures)) (at-visits .visits .ensures) (at-found .found .ensures)
-    (omega (arith, at-live .live .ensures, c .if2 .taken))
+    let start = at-count .before .before .before .before in
+    list-many _ _ _ _ _ _ _ _ (count-read _ _ (start .pre .0 .0) _ _ (at-count .count .ensures)) (at-visits .visits .ensures)
+    (at-found .found .ensures) (omega (arith, start .pre .1, c .if2 .taken))
 
 cast-words : tie.Need-cast-words
 cast-words c = search needs
@@ -44,36 +39,36 @@ mul-words c = search needs
 
 returns-3 : tie.Need-returns-3
 returns-3 c =
-    let at-live = c .before .before in
-    let at-found = at-live .before in
+    let at-if2 = c .before in
+    let at-found = at-if2 .before in
     let at-if1 = at-found .before in
     let at-visits = at-if1 .before in
     let at-count = at-visits .before in
-    list-short _ _ _ _ _ _ _ _ (count-read _ _ (at-count .before .capacity .ensures) _ _ (at-count .count .ensures)) (at-visits .visits .ensures) (at-found .found .ensures)
-    (at-if1 .if1 .left) (omega (arith, at-live .live .ensures, c .before .if2 .left)) (inl (c .if3 .taken))
+    let start = at-count .before .before .before .before in
+    list-short _ _ _ _ _ _ _ _ (count-read _ _ (start .pre .0 .0) _ _ (at-count .count .ensures)) (at-visits .visits .ensures)
+    (at-found .found .ensures) (at-if1 .if1 .left) (omega (arith, start .pre .1, at-if2 .if2 .left)) (inl (c .if3 .taken))
 
 returns-4 : tie.Need-returns-4
 returns-4 c =
     let at-if2 = c .before .before in
-    let at-live = at-if2 .before in
-    let at-found = at-live .before in
+    let at-found = at-if2 .before in
     let at-if1 = at-found .before in
     let at-visits = at-if1 .before in
     let at-count = at-visits .before in
-    list-short _ _ _ _ _ _ _ _ (count-read _ _ (at-count .before .capacity .ensures) _ _ (at-count .count .ensures)) (at-visits .visits .ensures) (at-found .found .ensures)
-    (at-if1 .if1 .left) (omega (arith, at-live .live .ensures, at-if2 .if2 .left)) (inr (c .if4 .taken))
+    let start = at-count .before .before .before .before in
+    list-short _ _ _ _ _ _ _ _ (count-read _ _ (start .pre .0 .0) _ _ (at-count .count .ensures)) (at-visits .visits .ensures)
+    (at-found .found .ensures) (at-if1 .if1 .left) (omega (arith, start .pre .1, at-if2 .if2 .left)) (inr (c .if4 .taken))
 
 list-marks-requires : tie.Need-list-marks-requires
 list-marks-requires c κs =
     let at-if4 = c .before .before in
     let at-if3 = at-if4 .before in
     let at-if2 = at-if3 .before in
-    let at-live = at-if2 .before in
-    let at-count = at-live .before .before .before .before in
-    let start = at-count .before .before .before .before .before in (
-      (at-count .before .capacity .ensures, rw (at-count .before .capacity .ensures) (start .pre .2)),
+    let at-count = at-if2 .before .before .before .before in
+    let start = at-count .before .before .before .before in (
       start .pre .0,
-      omega (arith, start .pre .1, at-live .live .ensures, at-if2 .if2 .left),
+      start .pre .3,
+      omega (arith, start .pre .2, at-if2 .if2 .left),
       at-if3 .if3 .left,
       at-if4 .if4 .left,
     )
@@ -90,25 +85,23 @@ returns-5 c =
     let at-if4 = at-list-marks .before .before .before in
     let at-if3 = at-if4 .before in
     let at-if2 = at-if3 .before in
-    let at-live = at-if2 .before in
-    let at-found = at-live .before in
+    let at-found = at-if2 .before in
     let at-if1 = at-found .before in
     let at-visits = at-if1 .before in
     let at-count = at-visits .before in
-    list-lists _ _ _ _ _ _ _ _ (count-read _ _ (at-count .before .capacity .ensures) _ _ (at-count .count .ensures)) (at-visits .visits .ensures) (at-found .found .ensures)
-    (at-if1 .if1 .left) (omega (arith, at-live .live .ensures, at-if2 .if2 .left)) _ _ _ (at-if3 .if3 .left)
+    let start = at-count .before .before .before .before in
+    list-lists _ _ _ _ _ _ _ _ (count-read _ _ (start .pre .0 .0) _ _ (at-count .count .ensures)) (at-visits .visits .ensures)
+    (at-found .found .ensures) (at-if1 .if1 .left) (omega (arith, start .pre .1, at-if2 .if2 .left)) _ _ _ (at-if3 .if3 .left)
     (at-if4 .if4 .left) (at-list-marks .list-marks .ensures)
 
 pub list-own-spec : {M : Type 1} → statement M
 list-own-spec =
     tie.close
     (tie.spec
-    capacity-requires
     count-requires
     visits-requires
     returns
     found-requires
-    live-requires
     returns-2
     cast-words
     mul-words

@@ -1,6 +1,6 @@
 -- `listed` meets its contract: a branch for each row, and the list from the table's own words. Assumes nothing.
 use Rattle.register.proofs.Branches.{list-not-table, list-crossed, list-own}
-use Rattle.register.proofs.Own.{own-fits, part-live, part-room}
+use Rattle.register.proofs.Own.{own-fits, part-capacity, part-live}
 use Rattle.table.proofs.Own.{own-visits-few}
 use Rattle.geometry.specs.Values.{boxOutcome}
 use native.Mathlib.Omega.{arith}
@@ -13,7 +13,7 @@ own-requires : tie.Need-own-requires
 own-requires c κs = search needs
 
 returns : tie.Need-returns
-returns c = list-not-table _ _ _ _ _ (c .before .own .ensures .0) (c .if1 .taken)
+returns c = list-not-table _ _ _ _ _ (c .before .own .ensures .0 .0) (c .if1 .taken)
 
 new-requires : tie.Need-new-requires
 new-requires c κs = search needs
@@ -34,7 +34,7 @@ part-list-own-end : tie.Need-part-list-own-end
 part-list-own-end c =
     let at-own = c .before .before .before .before .before in
     let at-start = at-own .before .before .before .before in
-    omega (arith, at-own .own .ensures .0, own-fits (at-start .args .table .now))
+    omega (arith, at-own .own .ensures .0 .0, own-fits (at-start .args .table .now))
 
 -- the header's test has told that no more than C are live
 list-own-requires : tie.Need-list-own-requires
@@ -43,10 +43,14 @@ list-own-requires c κs =
     let at-if1 = at-b .before .before .before in
     let at-own = at-if1 .before in
     let at-start = at-own .before .before .before .before in
-    let t = at-start .args .table .now in (
-      omega (arith, at-own .own .ensures .1, own-visits-few t),
-      part-live t _ (at-own .own .ensures .0) (at-if1 .if1 .left),
-      part-room t _ (at-own .own .ensures .0) (at-if1 .if1 .left),
+    let own = at-own .own .ensures in
+    let says = own .1 (at-if1 .if1 .left) in
+    let t = at-start .args .table .now in
+    let live = part-live t _ (own .0 .0) (at-if1 .if1 .left) _ (says .1) in (
+      part-capacity t _ (own .0 .0) (at-if1 .if1 .left) _ (says .0),
+      live .0,
+      live .1,
+      omega (arith, own .0 .1, own-visits-few t),
     )
 
 returns-2 : tie.Need-returns-2
@@ -54,7 +58,7 @@ returns-2 c =
     let at-new = c .before .before in
     let at-if1 = at-new .before in
     let at-own = at-if1 .before in
-    list-crossed _ _ _ _ _ (at-own .own .ensures .0) (at-if1 .if1 .left) 6
+    list-crossed _ _ _ _ _ (at-own .own .ensures .0 .0) (at-if1 .if1 .left) 6
     (sym (at-new .new .ensures) ∙ ap boxOutcome (c .enum-told .given .1))
 
 same-length : tie.Need-same-length
@@ -71,7 +75,7 @@ returns-3 c =
     let at-if1 = at-new .before in
     let at-own = at-if1 .before in
     let own = at-own .own .ensures in
-    list-own _ _ _ _ _ (own .0) (at-if1 .if1 .left) _ (own .1) _ _ _ _
+    list-own _ _ _ _ _ (own .0 .0) (at-if1 .if1 .left) _ (own .0 .1) _ _ _ _
     (sym (at-new .new .ensures) ∙ ap boxOutcome (at-b .b .given .1)) (at-list-own .list-own .ensures)
 
 pub listed-spec : {M : Type 1} → statement M

@@ -5,9 +5,6 @@ use borrow.Author.Tests.{eq-eqb, ne-eqb}
 use Rattle.register.specs.Mirrors.{settledAfter, strikeFound, strikeOwn♯}
 use Rattle.register.proofs.strike.strike_own.Tie as tie
 
-capacity-requires : tie.Need-capacity-requires
-capacity-requires c κs = search needs
-
 -- src/strike.rt:27:9
 find-requires : tie.Need-find-requires
 find-requires c κs = search needs
@@ -27,7 +24,7 @@ returns c =
     let at-close = c .before .before in
     let at-if1 = at-close .before .before in
     let at-find = at-if1 .before in
-    rw (← find-read _ _ (at-find .before .before .capacity .ensures) _ _ (at-find .find .ensures), eq-eqb _ _ (at-if1 .if1 .taken), ← at-close .close .ensures)
+    rw (← find-read _ _ (at-find .before .before .before .pre .0) _ _ (at-find .find .ensures), eq-eqb _ _ (at-if1 .if1 .taken), ← at-close .close .ensures)
 
 -- src/strike.rt:32:9
 same-length-2 : tie.Need-same-length-2
@@ -36,7 +33,7 @@ same-length-2 c = search needs
 -- src/strike.rt:32:9
 returns-2 : tie.Need-returns-2
 unfolding strikeOwn♯ strikeFound settledAfter
-returns-2 c = rw (← find-read _ _ (c .before .before .before .before .capacity .ensures) _ _ (c .before .before .find .ensures), ne-eqb _ _ (c .before .if1 .left), eq-eqb _ _ (c .if2 .taken))
+returns-2 c = rw (← find-read _ _ (c .before .before .before .before .before .pre .0) _ _ (c .before .before .find .ensures), ne-eqb _ _ (c .before .if1 .left), eq-eqb _ _ (c .if2 .taken))
 
 -- src/strike.rt:35:9
 strike-requires : tie.Need-strike-requires
@@ -60,7 +57,7 @@ returns-3 c =
     let at-if1 = at-if2 .before in
     let at-find = at-if1 .before in
     rw (
-      ← find-read _ _ (at-find .before .before .capacity .ensures) _ _ (at-find .find .ensures),
+      ← find-read _ _ (at-find .before .before .before .pre .0) _ _ (at-find .find .ensures),
       ne-eqb _ _ (at-if1 .if1 .left),
       ne-eqb _ _ (at-if2 .if2 .left),
       ← at-strike .strike .ensures,
@@ -71,7 +68,6 @@ pub strike-own-spec : {M : Type 1} → statement M
 strike-own-spec =
     tie.close
     (tie.spec
-    capacity-requires
     find-requires
     close-requires
     same-length
