@@ -37,7 +37,8 @@ pub gathered-none : (lent : List ℕ) → 48 ≤ length lent → Gathered lent 0
 gathered-none lent h = within h (omega arith) refl
 
 -- a byte more
-pub gathered-more : (lent begun : List ℕ) (len b len′ : ℕ) (lent′ : List ℕ) → after len′ lent′ ≡ gather len b lent → Gathered lent len begun → Gathered lent′ len′ (begun ++ b ∷ [])
+pub gathered-more : (lent begun : List ℕ) (len b len′ : ℕ) (lent′ : List ℕ) → after len′ lent′ ≡ gather len b lent → Gathered lent len begun
+    → Gathered lent′ len′ (begun ++ b ∷ [])
 unfolding gather
 gathered-more lent begun len b len′ lent′ e (within room h t) =
     by-cases (leb 48 len)

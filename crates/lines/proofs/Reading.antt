@@ -196,7 +196,9 @@ readNumber-on = digits-rec (λ w. 0 < w → Word w → (t : List ℕ) → readNu
     (λ w h pos fits t.
     let e : 48 + w - 48 ≡ w = omega arith in
     rw (digits-single w h, digit-test (48 + w) (omega arith, omega arith), ne-eqb (48 + w) 48 (λ q. omega arith), e))
-    (λ w h on pos fits t. rw (digits-more w h, append-snoc (digits (w / 10)) (48 + w % 10) t, on (omega arith) (omega arith) ((48 + w % 10) ∷ t)) (readOn-digit w t fits))
+    (λ w h on pos fits t.
+    rw (digits-more w h, append-snoc (digits (w / 10)) (48 + w % 10) t, on (omega arith) (omega arith) ((48 + w % 10) ∷ t))
+    (readOn-digit w t fits))
 
 readNumber-complete : (w : ℕ) (t : List ℕ) → Word w → Stops t → readNumber♯ (digits w ++ t) ≡ some (number w t)
 unfolding readNumber♯ isDigit

@@ -72,7 +72,8 @@ module _ {I : Type 0} (A : Axis Mark Box) (f : ℕ → Mark) (place : ℕ → �
       (let q : taken + length vs + length us ≡ taken + length (vs ++ us) = omega (arith, length-append vs us) in rw q)
 
   -- the slots but one are gathered, where they are some
-  pub gather-holds : (but : ℕ) (t : Tree ℕ I) (xs : List ℕ) → Region place C (length xs) → Held A f place C xs t → depth t < 40 → 0 < length (without but (marks t))
+  pub gather-holds : (but : ℕ) (t : Tree ℕ I) (xs : List ℕ) → Region place C (length xs) → Held A f place C xs t → depth t < 40
+      → 0 < length (without but (marks t))
       → gather♯ place C but (length (without but (marks t))) (weight t) (number t) xs ≡ after true (sets xs (runPlace C 0) (without but (marks t)))
   unfolding gather♯ gathered
   gather-holds but t xs g h d some =

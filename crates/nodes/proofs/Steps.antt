@@ -66,5 +66,6 @@ collect-steps (suc f) place capacity but w n taken xs h =
     (λ o. rw (u, v, o)
     (omega (
       arith,
-      both-bound (collectSteps f place capacity but) (collect-steps f place capacity but) (collect♯ f place capacity but) (recordAt xs (place (n / 2))) w taken xs h,
+      both-bound (collectSteps f place capacity but) (collect-steps f place capacity but) (collect♯ f place capacity but)
+          (recordAt xs (place (n / 2))) w taken xs h,
     )))))

@@ -1,5 +1,5 @@
-// Arms and records, of main and auxiliary trees alike (docs/LAYOUT.md): they have the same words, and the same is made of them. `primary` and `secondary` put their
-// own name around each, so that the one never goes in for the other. Words are loaded and stored where the caller knows them to be there.
+// Arms and records, of main and auxiliary trees alike (docs/LAYOUT.md): they have the same words, and the same is made of them. `primary` and `secondary`
+// put their own name around each, so that the one never goes in for the other. Words are loaded and stored where the caller knows them to be there.
 ghost use mathlib.Core.Path.{_≡_};
 ghost use Prim.Native.Nat.{_+_, _<_, _≤_, _^_};
 ghost use lib.ListN.{length};

@@ -1,5 +1,5 @@
-// Nodes of the main tree (000's primary nodes): their numbers, arms and records, and the arms of their auxiliary trees. What is done with an arm or a record is `arm`'s; here
-// it has its kind.
+// Nodes of the main tree (000's primary nodes): their numbers, arms and records, and the arms of their auxiliary trees. What is done with an
+// arm or a record is `arm`'s; here it has its kind.
 ghost use mathlib.Core.Path.{_≡_};
 ghost use mathlib.Core.Bool.{true};
 ghost use Prim.Native.Nat.{_+_, _/_, _%_, _<_, _≤_, _^_};

@@ -38,8 +38,10 @@ use Rattle.twofold_layout.proofs.Kept.{clear-none, clear-spot, kept-mark, kept-
 use Rattle.twofold_layout.proofs.Over.{TwoLeavesAt, two-left, two-right, top-level, deeper-level, two-main}
 use Rattle.twofold_layout.proofs.Rules.{rules-left, rules-right}
 use Rattle.secondary_update.specs.Insert.{auxiliaryInsert♯}
-use Rattle.secondary_update.proofs.Inserting.{insert-times, insert-weight, insert-least, insert-names, rebuilt-weight, sum-one, grown-arm, leaf-held, grown-within}
-use Rattle.primary_insert.specs.Insert.{mainLeaf♯, mainAfresh♯, MainInsertion, insertOn, mainWay, mainInsertRecord, mainInsertArm, mainInsertNode, insertBeneath♯, insertRoot, mainInsert♯}
+use Rattle.secondary_update.proofs.Inserting.{insert-times, insert-weight, insert-least, insert-names}
+use Rattle.secondary_update.proofs.Inserting.{rebuilt-weight, sum-one, grown-arm, leaf-held, grown-within}
+use Rattle.primary_insert.specs.Insert.{mainLeaf♯, mainAfresh♯, MainInsertion, insertOn, mainWay, insertBeneath♯, insertRoot, mainInsert♯}
+use Rattle.primary_insert.specs.Insert.{mainInsertRecord, mainInsertArm, mainInsertNode}
 use Rattle.twofold_layout.proofs.Beneath.{beneath-record, beneath-two}
 use Rattle.primary_insert.proofs.Way.{arm-kept, AuxiliaryGrown, auxiliary-grown, two-way-left, two-way-right}
 use Rattle.primary_insert.proofs.Ready.{TwoReady, X, R, grow, mend, Grown, byX, ready-room, ready-new, ready-within, ready-once}

@@ -80,7 +80,8 @@ unfoldable pub insertBeneath♯ : ℕ → ℕ → Mark → ℕ → MainInsertion
 insertBeneath♯ zero capacity m s base at xs = after damaged xs
 insertBeneath♯ (suc f) capacity m s base at xs = mainInsertNode (insertBeneath♯ f capacity m s) capacity m s base at xs
 
-pub insertBeneath♯-zero : (f : ℕ) → f ≡ 0 → (capacity : ℕ) (m : Mark) (s base at : ℕ) (xs : List ℕ) → insertBeneath♯ f capacity m s base at xs ≡ after damaged xs
+pub insertBeneath♯-zero : (f : ℕ) → f ≡ 0 → (capacity : ℕ) (m : Mark) (s base at : ℕ) (xs : List ℕ)
+    → insertBeneath♯ f capacity m s base at xs ≡ after damaged xs
 unfolding insertBeneath♯
 insertBeneath♯-zero f e capacity m s base at xs = rw e
 

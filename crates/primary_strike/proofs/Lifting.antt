@@ -129,8 +129,10 @@ module _ (f : ℕ → Mark) (C : ℕ) (small : C ≤ 65536) where
         ne-eqb ((2 * least r + 1) % 2) 0 odd,
         half,
         lt-leb C (least r) name,
-        le-ltb (length xs) (levelEnd (levelPlace C (suc d)) C) (level-there (levelPlace C (suc d)) C (length xs) (two-level C (suc d) (length xs) small deep ln) (omega arith)),
-        le-ltb (length xs) (levelEnd (levelPlace C d) C) (level-there (levelPlace C d) C (length xs) (two-level C d (length xs) small (omega arith) ln) (omega arith)),
+        le-ltb (length xs) (levelEnd (levelPlace C (suc d)) C)
+            (level-there (levelPlace C (suc d)) C (length xs) (two-level C (suc d) (length xs) small deep ln) (omega arith)),
+        le-ltb (length xs) (levelEnd (levelPlace C d) C)
+            (level-there (levelPlace C d) C (length xs) (two-level C d (length xs) small (omega arith) ln) (omega arith)),
         h .main .records .0,
         h .auxiliaries .0 .arm,
         deeper-level C (suc d) small (omega (arith, most-levels C small)),

@@ -157,7 +157,8 @@ module _ (f : ℕ → Mark) (C : ℕ) (small : C ≤ 65536) (s : ℕ) where
     node-struck k =
         let a = h .auxiliaries .0 in
         let v = auxiliary-tree l r i (a .tree) (b .auxiliaries .0) (a .is) in
-        auxiliary-struck d (least r) i xs (a .tree) (two-level C d (length xs) small level ln) (held-least (held-right (h .main))) (a .is) (a .arm) (a .held) (v .0) (v .1) (v .2)
+        auxiliary-struck d (least r) i xs (a .tree) (two-level C d (length xs) small level ln) (held-least (held-right (h .main)))
+        (a .is) (a .arm) (a .held) (v .0) (v .1) (v .2)
         (rw (rules-auxiliary-times f (b .auxiliaries .0) (a .is) s) k)
 
     node-apart : (q : ℕ) → times q l + times q r ≤ 1

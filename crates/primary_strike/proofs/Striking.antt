@@ -35,11 +35,14 @@ use Rattle.twofold_layout.proofs.Rules.{rules-left, rules-right}
 use Rattle.twofold_layout.proofs.Over.{TwoLeavesAt, two-left, two-right, top-level, deeper-level, two-main}
 use Rattle.secondary_update.specs.Strike.{ifStruck}
 use Rattle.secondary_update.proofs.Inserting.{rebuilt-weight}
-use Rattle.secondary_update.proofs.Striking.{strike-leads, struckNode, Strikes, leftGoes, rightGoes, inLeft, inRight, leads-strikes, strikes-in, strikes-weight, renamed-least, apart-least}
+use Rattle.secondary_update.proofs.Striking.{strike-leads, struckNode, renamed-least, apart-least}
+use Rattle.secondary_update.proofs.Striking.{Strikes, leftGoes, rightGoes, inLeft, inRight, leads-strikes, strikes-in, strikes-weight}
 use Rattle.secondary_update.specs.Updates.{Strike, strikeOf}
-use Rattle.primary_strike.specs.Strike.{MainStriking, struckAuxiliary♯, mainLeft, mainRight, mainStrikeRecord, mainStrikeNode, strikeBeneath♯, putStruck, strikeRoot, mainStrike♯}
+use Rattle.primary_strike.specs.Strike.{MainStriking, struckAuxiliary♯, mainLeft, mainRight, mainStrikeRecord, mainStrikeNode}
+use Rattle.primary_strike.specs.Strike.{strikeBeneath♯, putStruck, strikeRoot, mainStrike♯}
 use Rattle.twofold_layout.proofs.Node.{root-leaves}
-use Rattle.primary_strike.proofs.Steps.{LeavesMain, over-main, struck-rules, goes-holds, afresh-holds, node-struck, struck-long, struck-left, struck-right, left-node, right-node}
+use Rattle.primary_strike.proofs.Steps.{LeavesMain, over-main, struck-rules, goes-holds, afresh-holds}
+use Rattle.primary_strike.proofs.Steps.{node-struck, struck-long, struck-left, struck-right, left-node, right-node}
 
 -- what the strike of a slot leaves of the tree at the root, where a tree t′ remains
 pub record LeavesRoot (f : ℕ → Mark) (C : ℕ) (xs : List ℕ) (t′ : SlotMain) (p : After ℕ) : Type 0 where

@@ -78,7 +78,8 @@ unfoldable pub strikeBeneath♯ : ℕ → ℕ → Mark → ℕ → MainStriking
 strikeBeneath♯ zero capacity m s base w n xs = after noStrike xs
 strikeBeneath♯ (suc f) capacity m s base w n xs = mainStrikeNode (strikeBeneath♯ f capacity m s) capacity m s base w n xs
 
-pub strikeBeneath♯-zero : (f : ℕ) → f ≡ 0 → (capacity : ℕ) (m : Mark) (s base w n : ℕ) (xs : List ℕ) → strikeBeneath♯ f capacity m s base w n xs ≡ after noStrike xs
+pub strikeBeneath♯-zero : (f : ℕ) → f ≡ 0 → (capacity : ℕ) (m : Mark) (s base w n : ℕ) (xs : List ℕ)
+    → strikeBeneath♯ f capacity m s base w n xs ≡ after noStrike xs
 unfolding strikeBeneath♯
 strikeBeneath♯-zero f e capacity m s base w n xs = rw e
 

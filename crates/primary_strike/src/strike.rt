@@ -106,7 +106,8 @@ fn strike_over(
     first: u32,
 ) -> Struck
     requires { ⌜ slotPlace name + slotWidth ≤ length (now t) ⌝ }
-    ensures { λ u. ⌜ after (mainStruckValue u) (now (t .exit)) ≡ mainStrikeOver name (primaryArm l) (primaryArm r) (secondaryArm auxiliary) rebuilt first (now (t .entry)) ⌝ }
+    ensures { λ u. ⌜ after (mainStruckValue u) (now (t .exit))
+        ≡ mainStrikeOver name (primaryArm l) (primaryArm r) (secondaryArm auxiliary) rebuilt first (now (t .entry)) ⌝ }
 {
     if auxiliary.weight == 0 {
         return damaged();

@@ -129,7 +129,8 @@ pub record LeavesLists (a : Answer) (before after : Lent) : Type 0 where
   pub pastFirst : drop (3 * length (a .listed)) (after .first) ≡ drop (3 * length (a .listed)) (before .first)
   pub pastSecond : drop (3 * length (a .listed)) (after .second) ≡ drop (3 * length (a .listed)) (before .second)
 
--- an accepted open leaves a sound table of that capacity without marks, whatever the words were; it writes words 0 to 6 and the two lists of slots, and no other
+-- an accepted open leaves a sound table of that capacity without marks, whatever the words were; it writes words 0 to 6 and the two lists of slots, and no
+-- other
 abbrev pub Starts : Call → List ℕ → List ℕ → Type 0
 Starts (openFor c words) xs ys =
     (capacityOf ys ≡ c) × Holding (own ys) none

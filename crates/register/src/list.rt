@@ -16,6 +16,7 @@ use geometry::NewBox;
 use sorting::order::Order;
 use sorting::sort;
 use table::header;
+use table::layout;
 
 // Lists the k marks that a count has found. Nothing is refused from here on: a refusal changes no lent word.
 fn list_marks(
@@ -31,7 +32,7 @@ fn list_marks(
     ensures { λ r. ⌜ ListedOwn (boxValue b) most k (now (t .entry)) (now (first .entry)) (now (second .entry))
         (now (first .exit)) (now (second .exit)) (listFigures r) ⌝ }
 {
-    let words = 3 * (k as usize);
+    let words = layout::MARK * (k as usize);
     let tally = primary_search::list::list(t, capacity, b, &mut first[0..words], most + 2 * k);
     let which = sort::sort_lists(Order::AlongX, first, second, k);
     Listing::Listed(k, tally.visits(), which)
@@ -59,7 +60,7 @@ fn list_own(
     if live < k {
         return Listing::Unsound;
     }
-    let words = 3 * (k as usize);
+    let words = layout::MARK * (k as usize);
     if first.len() < words {
         return Listing::Short(k);
     }

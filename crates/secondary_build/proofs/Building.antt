@@ -24,7 +24,8 @@ use Rattle.nodes.specs.Holds.{number, armOf, timesIn, times, Held}
 use Rattle.table.specs.After.{After}
 use Rattle.nodes.proofs.Unchanged.{apart-sym, unchanged-refl, unchanged-trans}
 use Rattle.nodes.proofs.Frames.{sets-at, Region, Frame, frame-weaken, frame-run, frame-mark, putRecord-frame}
-use Rattle.nodes.proofs.Held.{times-least, held-weight, held-least, held-frame, leafArm-of, overArm-of, node-held, Names, names-left, names-right, names-own, Leaves}
+use Rattle.nodes.proofs.Held.{times-least, held-weight, held-least, held-frame, leafArm-of, overArm-of, node-held, Leaves}
+use Rattle.nodes.proofs.Held.{Names, names-left, names-right, names-own}
 use Rattle.nodes.proofs.Without.{without, without-short, without-times}
 use Rattle.nodes.proofs.Collecting.{run-frame, gather-holds}
 use Rattle.secondary_build.specs.Build.{runLeaf, buildOver, buildNode, build♯, build♯-leaf, build♯-node, rebuildRun, rebuild♯}
@@ -138,7 +139,8 @@ module _ {I : Type 0} (A : Axis Mark Box) (f : ℕ → Mark) (place : ℕ → �
       run-kept g (bq .frame) inC (run-kept g (bp .frame) (λ s k. bp .held .within s (k .0)) (run-right (marks l) (marks r) u)) in
       let apart : ((s : ℕ) → times s l + times s r ≤ 1) = λ s. omega (arith, u .once s, countIf-append (eqb s) (marks l) (marks r)) in
       let hl : Held A f place C ys l =
-      held-frame A f g (omega arith) (omega arith) (frame-run (runPlace C 0) (runPlace C C) (bq .frame)) inC l (λ s k. inl (omega (arith, k .0, apart s))) (bp .held) in
+      held-frame A f g (omega arith) (omega arith) (frame-run (runPlace C 0) (runPlace C C) (bq .frame)) inC l
+      (λ s k. inl (omega (arith, k .0, apart s))) (bp .held) in
       let h = node-held A f gy j l r ys refl hl (bq .held) apart in
       let name : least r < C = held-least (bq .held) in
       rw (run-least r v, bp .is, bq .is)
@@ -158,7 +160,8 @@ module _ {I : Type 0} (A : Axis Mark Box) (f : ℕ → Mark) (place : ℕ → �
     unfolding buildNode
     build-holds d i l xs g u p =
         build-induction (slotAxis f A) R
-        (λ run t. (i : ℕ) (xs : List ℕ) → Region place C (length xs) → Run f C i run xs → Built A f place C xs (build♯ A (length run) place C i (length run) xs) t)
+        (λ run t. (i : ℕ) (xs : List ℕ) → Region place C (length xs) → Run f C i run xs
+        → Built A f place C xs (build♯ A (length run) place C i (length run) xs) t)
         d
         leaf-built
         (λ run l r e long w bl br i xs g u.
@@ -169,7 +172,8 @@ module _ {I : Type 0} (A : Axis Mark Box) (f : ℕ → Mark) (place : ℕ → �
         let first = bl i xs g (run-left (marks l) (marks r) u′) in
         rw (build♯-node (length run) long A place C i xs, half, rest)
         (over-built (R .build run) l r i xs _ _ g u′ first
-        (br (i + length (marks l)) _ (rw (first .frame .long) g) (run-kept g (first .frame) (λ s k. first .held .within s (k .0)) (run-right (marks l) (marks r) u′)))))
+        (br (i + length (marks l)) _ (rw (first .frame .long) g)
+        (run-kept g (first .frame) (λ s k. first .held .within s (k .0)) (run-right (marks l) (marks r) u′)))))
         l p i xs g u
 
     rest-rebuilt : (but d : ℕ) (t : Tree ℕ I) (xs : List ℕ) → Region place C (length xs) → Held A f place C xs t → depth t < 40

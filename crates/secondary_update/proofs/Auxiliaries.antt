@@ -70,17 +70,20 @@ module _ (f : ℕ → Mark) (base C : ℕ) (xs : List ℕ) where
           sorted = o;
           spot = auxiliary-spot base C (length xs) owner k low (g .runRoom);
         } in
-        let e = insert-holds alongY f (carried f) (recordPlace base) C s inC (axis-coordinate alongY-laws same-sound) deepest t true (auxiliaryPlace owner) xs ready
-        (omega arith) (omega arith) b in
+        let e = insert-holds alongY f (carried f) (recordPlace base) C s inC (axis-coordinate alongY-laws same-sound)
+        deepest t true (auxiliaryPlace owner) xs ready (omega arith) (omega arith) b in
         let sound = grows-sound alongY f (carried f) (recordPlace base) C s (auxiliaryPlace owner) xs
-        (insert♯ alongY deepest C (recordPlace base) (f s) s true (auxiliaryPlace owner) xs) true (insertLeaf (slotAxis f alongY) (carried f) s t) (g .small) e in
+        (insert♯ alongY deepest C (recordPlace base) (f s) s true (auxiliaryPlace owner) xs) true
+        (insertLeaf (slotAxis f alongY) (carried f) s t) (g .small) e in
         rw (le-ltb (length xs) (levelEnd base C) (level-there base C (length xs) g (omega arith)))
         (record { tree = _; is = refl; leaves = e .0; figure = e .1; sound = sound })
 
     pub auxiliary-strike : (owner : ℕ) (i : List ℕ) (l r : Tree ℕ (List ℕ)) → owner < C → armAt xs (auxiliaryPlace owner) ≡ armOf alongY f (node i l r)
-        → Held alongY f (recordPlace base) C xs (node i l r) → Balanced (node i l r) → Sorted (slotAxis f alongY) (marks (node i l r)) → 0 < times s (node i l r)
+        → Held alongY f (recordPlace base) C xs (node i l r) → Balanced (node i l r) → Sorted (slotAxis f alongY) (marks (node i l r))
+        → 0 < times s (node i l r)
         → let p = auxiliaryStrike♯ base C (f s) s owner xs in
-        Becomes (auxiliaryOf f .strike s (some (node i l r))) (strikeRebuilt (slotAxis f alongY) (carried f) s (some (node i l r))) (p .out .arm) (p .out .rebuilt) (p .words)
+        Becomes (auxiliaryOf f .strike s (some (node i l r))) (strikeRebuilt (slotAxis f alongY) (carried f) s (some (node i l r)))
+        (p .out .arm) (p .out .rebuilt) (p .words)
     unfolding auxiliaryStrike♯ strikeFrom
     auxiliary-strike owner i l r k a h b o n =
         let d = held-shallow h b (g .small) in

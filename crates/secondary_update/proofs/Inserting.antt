@@ -34,7 +34,8 @@ use Rattle.nodes.proofs.Spots.{record-arms, Spot, spot-weaken, record-spot, spo
 use Rattle.nodes.proofs.Collecting.{every-slot}
 use Rattle.secondary_build.specs.Build.{rebuild♯}
 use Rattle.secondary_build.proofs.Building.{rebuild-holds}
-use Rattle.secondary_update.specs.Insert.{nodeAt, split♯, putFresh, rebuiltAt, afresh♯, Insertion, insertAfresh, insertWay, insertRecord, insertArm, insertNode, insert♯}
+use Rattle.secondary_update.specs.Insert.{nodeAt, split♯, putFresh, rebuiltAt, afresh♯}
+use Rattle.secondary_update.specs.Insert.{Insertion, insertAfresh, insertWay, insertRecord, insertArm, insertNode, insert♯}
 use Rattle.secondary_update.proofs.Mending.{mended, figure, MayMend}
 use Rattle.secondary_update.proofs.Mended.{mended-marks, mended-times, mended-weight, mended-least, mayMend-left, mayMend-right}
 use Rattle.secondary_update.proofs.Node.{node-leaves}
@@ -238,8 +239,9 @@ module _ {I : Type 0} (A : Axis Mark Box) (f : ℕ → Mark) (R : Register ℕ B
 
     fresh-leaves : depth (node i l r) < 40 → Leaves A f place C ws (rebuilding .out) (rebuilding .words) fresh
     fresh-leaves deep =
-        rebuild-holds A f place C R noSlot (weight l + weight r) (least l) (node i l r) (marks l ++ marks r) ws (subst (Region place C) (sym (h .frame .long)) g)
-        (h .held) deep (sym (every-slot (node i l r) (g .small) (h .held))) (marks-pos (node i l r)) (weight-marks (node i l r)) .0
+        rebuild-holds A f place C R noSlot (weight l + weight r) (least l) (node i l r) (marks l ++ marks r) ws
+        (subst (Region place C) (sym (h .frame .long)) g) (h .held) deep
+        (sym (every-slot (node i l r) (g .small) (h .held))) (marks-pos (node i l r)) (weight-marks (node i l r)) .0
 
     afresh-words : depth (node i l r) < 40 → afresh♯ A C place at 0 ws ≡ after (weight l + weight r) (putArm (rebuilding .words) at (rebuilding .out))
     unfolding afresh♯ rebuiltAt putFresh
@@ -285,7 +287,8 @@ module _ {I : Type 0} (A : Axis Mark Box) (f : ℕ → Mark) (R : Register ℕ B
         (λ e. h .within q (let z = (rw e at (insert-times X R s q t)) in omega arith))
 
     -- a leaf is split
-    pair-grows : (mends : Bool) (at : ℕ) (xs : List ℕ) (i : I) (a b : ℕ) → Region place C (length xs) → Held {I = I} A f place C xs (leaf a) → Held {I = I} A f place C xs (leaf b)
+    pair-grows : (mends : Bool) (at : ℕ) (xs : List ℕ) (i : I) (a b : ℕ) → Region place C (length xs)
+        → Held {I = I} A f place C xs (leaf a) → Held {I = I} A f place C xs (leaf b)
         → ((q : ℕ) → times {I = I} q (leaf a) + times {I = I} q (leaf b) ≤ 1) → Spot place C (Names (node i (leaf a) (leaf b))) at (length xs)
         → Grows at xs (after 0 (nodeAt place at b (armOf {I = I} A f (leaf a)) (armOf {I = I} A f (leaf b)) xs)) mends (node i (leaf a) (leaf b))
     unfolding nodeAt
@@ -411,7 +414,8 @@ module _ {I : Type 0} (A : Axis Mark Box) (f : ℕ → Mark) (R : Register ℕ B
 
       -- the mirror at a node, and its way to either child
       insert♯-node : (fuel : ℕ) (mends : Bool) → insert♯ A (suc fuel) C place (f s) s mends at xs
-          ≡ insertWay A (insert♯ A fuel C place (f s) s) C place (f s) (least r) (A .below (f s) (f (least r))) (arms (armOf A f l) (armOf A f r)) mends at (armOf A f (node i l r)) xs
+          ≡ insertWay A (insert♯ A fuel C place (f s) s) C place (f s) (least r) (A .below (f s) (f (least r)))
+          (arms (armOf A f l) (armOf A f r)) mends at (armOf A f (node i l r)) xs
       unfolding insert♯ insertNode insertArm insertRecord
       insert♯-node fuel mends =
           let odd : ((2 * least r + 1) % 2 ≡ 0 → ⊥) = omega arith in
@@ -467,7 +471,8 @@ module _ {I : Type 0} (A : Axis Mark Box) (f : ℕ → Mark) (R : Register ℕ B
               (λ u. rw (afresh-left u)
               (again-grows at xs rec here (grow l) r (k .region) (rw e at (k .spot))
               (omega (arith, insert-depth X R s l)) u (rw e at (again refl))))
-          left-way false e b h again = rw (way-left false (λ z. clash z refl)) (left-grows false (rec false (place (least r)) widened) e b (λ z. clash z refl) h)
+          left-way false e b h again =
+              rw (way-left false (λ z. clash z refl)) (left-grows false (rec false (place (least r)) widened) e b (λ z. clash z refl) h)
 
           right-way : (mends : Bool) → A .below (f s) (f (least r)) ≡ false → MayMend mends l
               → Grows (place (least r) + 4) widened (rec mends (place (least r) + 4) widened) mends (grow r)
@@ -483,8 +488,8 @@ module _ {I : Type 0} (A : Axis Mark Box) (f : ℕ → Mark) (R : Register ℕ B
               rw (way-right false (λ z. clash z refl)) (right-grows false (rec false (place (least r) + 4) widened) e b (λ z. clash z refl) h)
 
     -- THE INSERTION: where mending is asked, a step of fuel more may be spent on the tree that is built afresh
-    pub insert-holds : ByCoordinate A → (fuel : ℕ) (t : Tree ℕ I) (mends : Bool) (at : ℕ) (xs : List ℕ) → Ready at xs t → depth t + indicator mends < fuel → depth t + 1 < 40
-        → MayMend mends t
+    pub insert-holds : ByCoordinate A → (fuel : ℕ) (t : Tree ℕ I) (mends : Bool) (at : ℕ) (xs : List ℕ) → Ready at xs t
+        → depth t + indicator mends < fuel → depth t + 1 < 40 → MayMend mends t
         → LeavesAt A f place C at xs (insert♯ A fuel C place (f s) s mends at xs .words) (mended (slotAxis f A) R mends (insertLeaf (slotAxis f A) R s t))
         × (insert♯ A fuel C place (f s) s mends at xs .out ≡ figure mends (insertLeaf (slotAxis f A) R s t))
     unfolding insert♯ insertNode insertArm
@@ -500,8 +505,8 @@ module _ {I : Type 0} (A : Axis Mark Box) (f : ℕ → Mark) (R : Register ℕ B
         rw (insert♯-node K at xs i l r k fuel mends)
         (by-cases (A .below (f s) (f (least r)))
         (λ e. rw e (left-way K at xs i l r k rec d mends e (mayMend-right mends i l r b)
-        (insert-holds K fuel l mends (place (least r)) (widened K at xs i l r k) (left-ready K at xs i l r k) (omega arith) (omega arith) (mayMend-left mends i l r b))
-        again))
+        (insert-holds K fuel l mends (place (least r)) (widened K at xs i l r k) (left-ready K at xs i l r k) (omega arith) (omega arith)
+        (mayMend-left mends i l r b)) again))
         (λ e. rw e (right-way K at xs i l r k rec d mends e (mayMend-left mends i l r b)
-        (insert-holds K fuel r mends (place (least r) + 4) (widened K at xs i l r k) (right-ready K at xs i l r k e) (omega arith) (omega arith) (mayMend-right mends i l r b))
-        again)))
+        (insert-holds K fuel r mends (place (least r) + 4) (widened K at xs i l r k) (right-ready K at xs i l r k e) (omega arith) (omega arith)
+        (mayMend-right mends i l r b)) again)))

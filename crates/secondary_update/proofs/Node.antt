@@ -32,7 +32,8 @@ module _ {I : Type 0} {A : Axis Mark Box} {f : ℕ → Mark} {place : ℕ → �
 
 module _ {I : Type 0} (A : Axis Mark Box) (f : ℕ → Mark) {place : ℕ → ℕ} {C : ℕ} where
   -- the record of a node written over two trees with no slot in common
-  pub node-leaves : (i : I) (l r : Tree ℕ I) (xs : List ℕ) → Region place C (length xs) → Held A f place C xs l → Held A f place C xs r → ((s : ℕ) → times s l + times s r ≤ 1)
+  pub node-leaves : (i : I) (l r : Tree ℕ I) (xs : List ℕ) → Region place C (length xs) → Held A f place C xs l → Held A f place C xs r
+      → ((s : ℕ) → times s l + times s r ≤ 1)
       → Leaves A f place C xs (overArm (least r) (armOf A f l) (armOf A f r)) (putRecord xs (place (least r)) (armOf A f l) (armOf A f r)) (node i l r)
   node-leaves i l r xs g hl hr d =
       let h = node-held A f g i l r xs refl hl hr d in

@@ -31,11 +31,13 @@ use Rattle.nodes.proofs.Held.{times-node, times-least, held-left, held-right, h
 use Rattle.nodes.proofs.Without.{without, without-append, without-none}
 use Rattle.secondary_build.proofs.Building.{rebuild-holds}
 use Rattle.secondary_update.specs.Updates.{Strike, strikeOf}
-use Rattle.secondary_update.specs.Strike.{Striking, ifStruck, strikeOver, freshStrike, strikeAfresh, strikeLeft, strikeRight, strikeRecord, strikeNode, strike♯}
+use Rattle.secondary_update.specs.Strike.{Striking, ifStruck, strikeOver, freshStrike, strikeAfresh}
+use Rattle.secondary_update.specs.Strike.{strikeLeft, strikeRight, strikeRecord, strikeNode, strike♯}
 use Rattle.secondary_update.proofs.Node.{over-left, over-right}
 
 -- a slot that would be below itself, were it s, is not s
-not-itself : {S : Space Mark Box} (A : Axis Mark Box) (f : ℕ → Mark) → SamenessLaws S → AxisLaws S A → (s q : ℕ) → (s ≡ q → A .below (f s) (f s) ≡ true) → eqb s q ≡ false
+not-itself : {S : Space Mark Box} (A : Axis Mark Box) (f : ℕ → Mark) → SamenessLaws S → AxisLaws S A → (s q : ℕ)
+    → (s ≡ q → A .below (f s) (f s) ≡ true) → eqb s q ≡ false
 not-itself A f E O s q h = not-true-false (eqb s q) (λ e. clash (E .self (f s)) (O .apart (f s) (f s) (h (eqb-true s q e))))
 
 module _ {I : Type 0} (A : Axis Mark Box) (f : ℕ → Mark) (s : ℕ) where

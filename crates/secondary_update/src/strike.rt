@@ -62,7 +62,8 @@ fn strike_over(
     first: u32,
 ) -> Struck
     requires { ⌜ recordPlace base name + recordWidth ≤ length (now t) ⌝ }
-    ensures { λ u. ⌜ after (struckValue u) (now (t .exit)) ≡ strikeOver (recordPlace base) name (secondaryArm l) (secondaryArm r) rebuilt first (now (t .entry)) ⌝ }
+    ensures { λ u. ⌜ after (struckValue u) (now (t .exit))
+        ≡ strikeOver (recordPlace base) name (secondaryArm l) (secondaryArm r) rebuilt first (now (t .entry)) ⌝ }
 {
     SecondaryRecord::store(t, base, name, l, r);
     answer(SecondaryArm::over(name, l, r), rebuilt, first)
@@ -98,7 +99,8 @@ fn strike_beneath(
     fuel: u32,
 ) -> Struck
     requires { ⌜ (runsEnd capacity ≤ length (now t)) × (levelEnd base capacity ≤ length (now t)) ⌝ }
-    ensures { λ u. ⌜ after (struckValue u) (now (t .exit)) ≡ strike♯ alongY fuel capacity (recordPlace base) (markValue m) s weight (node .0) (now (t .entry)) ⌝ }
+    ensures { λ u. ⌜ after (struckValue u) (now (t .exit))
+        ≡ strike♯ alongY fuel capacity (recordPlace base) (markValue m) s weight (node .0) (now (t .entry)) ⌝ }
 {
     if fuel == 0 {
         return damaged();

@@ -1,6 +1,6 @@
 // The marks of slots and of lists.
 ghost use mathlib.Core.Path.{_≡_};
-ghost use Prim.Native.Nat.{_+_, _<_, _≤_, _^_};
+ghost use Prim.Native.Nat.{_+_, _≤_};
 ghost use lib.ListN.{length};
 ghost use Rattle.geometry.specs.Values.{markValue};
 ghost use Rattle.table.specs.Layout.{markWidth, slotPlace, listPlace};
@@ -8,27 +8,11 @@ ghost use Rattle.table.specs.Marks.{markAt, slotMark, listMark, putMark}
 use crate::layout;
 use geometry::Mark;
 
-fn read_mark(t: &[u32], at: usize) -> Mark
-    requires { ⌜ at < 2 ^ 40 ⌝ }
+// The mark in the words from `at` on, which are there.
+fn read(t: &[u32], at: usize) -> Mark
+    requires { ⌜ at + markWidth ≤ length (now t) ⌝ }
     ensures { λ r. ⌜ markValue r ≡ markAt (now (t .entry)) at ⌝ }
 {
-    if at + layout::MARK <= t.len() {
-        Mark {
-            x: t[at],
-            y: t[at + 1],
-            tag: t[at + 2],
-        }
-    } else {
-        Mark { x: 0, y: 0, tag: 0 }
-    }
-}
-
-// The mark in slot s, whose words are there.
-pub fn load(t: &[u32], s: u32) -> Mark
-    requires { ⌜ slotPlace s + markWidth ≤ length (now t) ⌝ }
-    ensures { λ r. ⌜ markValue r ≡ slotMark (now (t .entry)) s ⌝ }
-{
-    let at = layout::HEADER + layout::SLOT * (s as usize);
     Mark {
         x: t[at],
         y: t[at + 1],
@@ -36,22 +20,21 @@ pub fn load(t: &[u32], s: u32) -> Mark
     }
 }
 
-// The mark at the place k of a list, three words a mark.
-pub fn listed(list: &[u32], k: u32) -> Mark
-    ensures { λ r. ⌜ markValue r ≡ listMark (now (list .entry)) k ⌝ }
-{
-    read_mark(list, layout::MARK * (k as usize))
-}
-
-fn put_mark(t: &mut [u32], at: usize, m: Mark)
-    requires { ⌜ at < 2 ^ 40 ⌝ }
+fn write(t: &mut [u32], at: usize, m: Mark)
+    requires { ⌜ at + markWidth ≤ length (now t) ⌝ }
     ensures { λ _. ⌜ now (t .exit) ≡ putMark (now (t .entry)) at (markValue m) ⌝ }
 {
-    if at + layout::MARK <= t.len() {
-        t[at] = m.x;
-        t[at + 1] = m.y;
-        t[at + 2] = m.tag;
-    }
+    t[at] = m.x;
+    t[at + 1] = m.y;
+    t[at + 2] = m.tag;
+}
+
+// The mark in slot s, whose words are there.
+pub fn load(t: &[u32], s: u32) -> Mark
+    requires { ⌜ slotPlace s + markWidth ≤ length (now t) ⌝ }
+    ensures { λ r. ⌜ markValue r ≡ slotMark (now (t .entry)) s ⌝ }
+{
+    read(t, layout::HEADER + layout::SLOT * (s as usize))
 }
 
 // Puts a mark into slot s, whose words are there.
@@ -59,15 +42,26 @@ pub fn store(t: &mut [u32], s: u32, m: Mark)
     requires { ⌜ slotPlace s + markWidth ≤ length (now t) ⌝ }
     ensures { λ _. ⌜ now (t .exit) ≡ putMark (now (t .entry)) (slotPlace s) (markValue m) ⌝ }
 {
-    let at = layout::HEADER + layout::SLOT * (s as usize);
-    t[at] = m.x;
-    t[at + 1] = m.y;
-    t[at + 2] = m.tag;
+    write(t, layout::HEADER + layout::SLOT * (s as usize), m);
 }
 
-// Puts a mark at the place k of a list.
+// The mark at the place k of a list, three words a mark; zeros where they are not all there.
+pub fn listed(list: &[u32], k: u32) -> Mark
+    ensures { λ r. ⌜ markValue r ≡ listMark (now (list .entry)) k ⌝ }
+{
+    let at = layout::MARK * (k as usize);
+    if at + layout::MARK <= list.len() {
+        return read(list, at);
+    }
+    Mark { x: 0, y: 0, tag: 0 }
+}
+
+// Puts a mark at the place k of a list, where its words are all there.
 pub fn put_listed(list: &mut [u32], k: u32, m: Mark)
     ensures { λ _. ⌜ now (list .exit) ≡ putMark (now (list .entry)) (listPlace k) (markValue m) ⌝ }
 {
-    put_mark(list, layout::MARK * (k as usize), m);
+    let at = layout::MARK * (k as usize);
+    if at + layout::MARK <= list.len() {
+        write(list, at, m);
+    }
 }

@@ -82,7 +82,8 @@ module _ (xs : List ℕ) where
       let g = k .1 .main in
       find-absent (slotMark xs) (capacityOf xs) xs t (k .0) refl g (omega (arith, held-shallow g (r .balanced) small)) m n
 
-  count-of : (o : Option SlotMain) → HoldsTree xs o → TreeByRules xs o → capacityOf xs ≤ 65536 → W (capacityOf xs) ≤ length xs → (b : Box) → boxCrossed b ≡ false
+  count-of : (o : Option SlotMain) → HoldsTree xs o → TreeByRules xs o → capacityOf xs ≤ 65536 → W (capacityOf xs) ≤ length xs
+      → (b : Box) → boxCrossed b ≡ false
       → slotMain (slotMark xs) .count b o .visits ≤ mostVisits
       → mainCount♯ xs b ≡ pack (slotMain (slotMark xs) .count b o .found) (slotMain (slotMark xs) .count b o .visits)
   count-of none k r small long b fine n = count-none xs b k
@@ -98,7 +99,8 @@ module _ (xs : List ℕ) where
   met-bag b none r p = refl
   met-bag b (some t) r p = mainMet-listed (slotMark xs) b t r p
 
-  list-of : (o : Option SlotMain) → HoldsTree xs o → TreeByRules xs o → capacityOf xs ≤ 65536 → W (capacityOf xs) ≤ length xs → (b : Box) (most : ℕ) → most < 2147483648
+  list-of : (o : Option SlotMain) → HoldsTree xs o → TreeByRules xs o → capacityOf xs ≤ 65536 → W (capacityOf xs) ≤ length xs
+      → (b : Box) (most : ℕ) → most < 2147483648
       → slotMain (slotMark xs) .list b o .visits ≤ most → (ys : List ℕ) → 3 * length (metOf b o) ≤ length ys → length (metOf b o) ≤ 65536
       → mainList♯ xs b most ys
       ≡ after (pack (length (metOf b o)) (slotMain (slotMark xs) .list b o .visits)) (sets ys 0 (markWords (map (slotMark xs) (metOf b o))))

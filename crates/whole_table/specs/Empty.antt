@@ -18,7 +18,8 @@ pub freeSlots♯-zero : (n : ℕ) → n ≡ 0 → (capacity : ℕ) (xs : List �
 unfolding freeSlots♯
 freeSlots♯-zero n e capacity xs = rw e
 
-pub freeSlots♯-suc : (n : ℕ) → (n ≡ 0 → ⊥) → (capacity : ℕ) (xs : List ℕ) → freeSlots♯ n capacity xs ≡ freeSlots♯ (n - 1) capacity (ownPlace capacity (n - 1) xs)
+pub freeSlots♯-suc : (n : ℕ) → (n ≡ 0 → ⊥) → (capacity : ℕ) (xs : List ℕ)
+    → freeSlots♯ n capacity xs ≡ freeSlots♯ (n - 1) capacity (ownPlace capacity (n - 1) xs)
 unfolding freeSlots♯
 freeSlots♯-suc zero h capacity xs = absurd (h refl)
 freeSlots♯-suc (suc n) h capacity xs = let e : suc n - 1 ≡ n = omega arith in rw e

@@ -1,5 +1,4 @@
 -- `is_outside` meets its contract: 0 and the capacities past the largest. Assumes nothing.
-use borrow.Author.Needs.{needs}
 use borrow.Author.Tests.{eq-eqb, ne-eqb}
 use Rattle.model.specs.Sizes.{capacityOutside}
 use Rattle.sizes.proofs.is_outside.Statement.{statement}

@@ -1,9 +1,8 @@
 -- `size_for` meets its contract: 0 and 0 out of range, and in range W(C) and the bound on visits by the capacity's levels. Assumes nothing.
-use Prim.Native.Nat.{ℕ, _≤_}
+use Prim.Native.Nat.{_≤_}
 use mathlib.Core.Path.{_≡_, refl, sym, _∙_}
 use native.Mathlib.Omega.{arith}
 use borrow.Author.Needs.{needs}
-use Rattle.sizes.specs.Sizes.{levelsFor}
 use Rattle.sizes.proofs.Sizes.{levelsFor-few, visits-fit, size-within}
 use Rattle.sizes.proofs.size_for.Statement.{statement}
 use Rattle.sizes.proofs.size_for.Tie as tie

@@ -20,20 +20,26 @@ enum-told c = search needs
 returns : tie.Need-returns
 unfolding read♯
 returns c =
+    let at-read-mark = c .before .before in
+    let at-if1 = at-read-mark .before in
+    let at-byte = at-if1 .before in
     rw (
-      ← c .before .before .before .before .byte .ensures,
-      eq-eqb _ 73 (c .before .before .before .if1 .taken),
-      ← c .before .before .read-mark .ensures,
+      ← at-byte .byte .ensures,
+      eq-eqb _ 73 (at-if1 .if1 .taken),
+      ← at-read-mark .read-mark .ensures,
       c .enum-told .given .1,
     )
 
 returns-2 : tie.Need-returns-2
 unfolding read♯
 returns-2 c =
+    let at-read-mark = c .before .before .before in
+    let at-if1 = at-read-mark .before in
+    let at-byte = at-if1 .before in
     rw (
-      ← c .before .before .before .before .before .byte .ensures,
-      eq-eqb _ 73 (c .before .before .before .before .if1 .taken),
-      ← c .before .before .before .read-mark .ensures,
+      ← at-byte .byte .ensures,
+      eq-eqb _ 73 (at-if1 .if1 .taken),
+      ← at-read-mark .read-mark .ensures,
       c .before .m .given .1,
     )
 
@@ -49,22 +55,30 @@ enum-told-2 c = search needs
 returns-3 : tie.Need-returns-3
 unfolding read♯
 returns-3 c =
+    let at-read-mark2 = c .before .before in
+    let at-if2 = at-read-mark2 .before in
+    let at-if1 = at-if2 .before in
+    let at-byte = at-if1 .before in
     rw (
-      ← c .before .before .before .before .before .byte .ensures,
-      ne-eqb _ 73 (c .before .before .before .before .if1 .left),
-      eq-eqb _ 68 (c .before .before .before .if2 .taken),
-      ← c .before .before .read-mark2 .ensures,
+      ← at-byte .byte .ensures,
+      ne-eqb _ 73 (at-if1 .if1 .left),
+      eq-eqb _ 68 (at-if2 .if2 .taken),
+      ← at-read-mark2 .read-mark2 .ensures,
       c .enum-told2 .given .1,
     )
 
 returns-4 : tie.Need-returns-4
 unfolding read♯
 returns-4 c =
+    let at-read-mark2 = c .before .before .before in
+    let at-if2 = at-read-mark2 .before in
+    let at-if1 = at-if2 .before in
+    let at-byte = at-if1 .before in
     rw (
-      ← c .before .before .before .before .before .before .byte .ensures,
-      ne-eqb _ 73 (c .before .before .before .before .before .if1 .left),
-      eq-eqb _ 68 (c .before .before .before .before .if2 .taken),
-      ← c .before .before .before .read-mark2 .ensures,
+      ← at-byte .byte .ensures,
+      ne-eqb _ 73 (at-if1 .if1 .left),
+      eq-eqb _ 68 (at-if2 .if2 .taken),
+      ← at-read-mark2 .read-mark2 .ensures,
       c .before .m2 .given .1,
     )
 
@@ -80,24 +94,34 @@ enum-told-3 c = search needs
 returns-5 : tie.Need-returns-5
 unfolding read♯
 returns-5 c =
+    let at-read-box = c .before .before in
+    let at-if3 = at-read-box .before in
+    let at-if2 = at-if3 .before in
+    let at-if1 = at-if2 .before in
+    let at-byte = at-if1 .before in
     rw (
-      ← c .before .before .before .before .before .before .byte .ensures,
-      ne-eqb _ 73 (c .before .before .before .before .before .if1 .left),
-      ne-eqb _ 68 (c .before .before .before .before .if2 .left),
-      eq-eqb _ 67 (c .before .before .before .if3 .taken),
-      ← c .before .before .read-box .ensures,
+      ← at-byte .byte .ensures,
+      ne-eqb _ 73 (at-if1 .if1 .left),
+      ne-eqb _ 68 (at-if2 .if2 .left),
+      eq-eqb _ 67 (at-if3 .if3 .taken),
+      ← at-read-box .read-box .ensures,
       c .enum-told3 .given .1,
     )
 
 returns-6 : tie.Need-returns-6
 unfolding read♯
 returns-6 c =
+    let at-read-box = c .before .before .before in
+    let at-if3 = at-read-box .before in
+    let at-if2 = at-if3 .before in
+    let at-if1 = at-if2 .before in
+    let at-byte = at-if1 .before in
     rw (
-      ← c .before .before .before .before .before .before .before .byte .ensures,
-      ne-eqb _ 73 (c .before .before .before .before .before .before .if1 .left),
-      ne-eqb _ 68 (c .before .before .before .before .before .if2 .left),
-      eq-eqb _ 67 (c .before .before .before .before .if3 .taken),
-      ← c .before .before .before .read-box .ensures,
+      ← at-byte .byte .ensures,
+      ne-eqb _ 73 (at-if1 .if1 .left),
+      ne-eqb _ 68 (at-if2 .if2 .left),
+      eq-eqb _ 67 (at-if3 .if3 .taken),
+      ← at-read-box .read-box .ensures,
       c .before .b .given .1,
     )
 
@@ -113,36 +137,51 @@ enum-told-4 c = search needs
 returns-7 : tie.Need-returns-7
 unfolding read♯
 returns-7 c =
+    let at-read-box2 = c .before .before in
+    let at-if4 = at-read-box2 .before in
+    let at-if3 = at-if4 .before in
+    let at-if2 = at-if3 .before in
+    let at-if1 = at-if2 .before in
+    let at-byte = at-if1 .before in
     rw (
-      ← c .before .before .before .before .before .before .before .byte .ensures,
-      ne-eqb _ 73 (c .before .before .before .before .before .before .if1 .left),
-      ne-eqb _ 68 (c .before .before .before .before .before .if2 .left),
-      ne-eqb _ 67 (c .before .before .before .before .if3 .left),
-      eq-eqb _ 76 (c .before .before .before .if4 .taken),
-      ← c .before .before .read-box2 .ensures,
+      ← at-byte .byte .ensures,
+      ne-eqb _ 73 (at-if1 .if1 .left),
+      ne-eqb _ 68 (at-if2 .if2 .left),
+      ne-eqb _ 67 (at-if3 .if3 .left),
+      eq-eqb _ 76 (at-if4 .if4 .taken),
+      ← at-read-box2 .read-box2 .ensures,
       c .enum-told4 .given .1,
     )
 
 returns-8 : tie.Need-returns-8
 unfolding read♯
 returns-8 c =
+    let at-read-box2 = c .before .before .before in
+    let at-if4 = at-read-box2 .before in
+    let at-if3 = at-if4 .before in
+    let at-if2 = at-if3 .before in
+    let at-if1 = at-if2 .before in
+    let at-byte = at-if1 .before in
     rw (
-      ← c .before .before .before .before .before .before .before .before .byte .ensures,
-      ne-eqb _ 73 (c .before .before .before .before .before .before .before .if1 .left),
-      ne-eqb _ 68 (c .before .before .before .before .before .before .if2 .left),
-      ne-eqb _ 67 (c .before .before .before .before .before .if3 .left),
-      eq-eqb _ 76 (c .before .before .before .before .if4 .taken),
-      ← c .before .before .before .read-box2 .ensures,
+      ← at-byte .byte .ensures,
+      ne-eqb _ 73 (at-if1 .if1 .left),
+      ne-eqb _ 68 (at-if2 .if2 .left),
+      ne-eqb _ 67 (at-if3 .if3 .left),
+      eq-eqb _ 76 (at-if4 .if4 .taken),
+      ← at-read-box2 .read-box2 .ensures,
       c .before .b2 .given .1,
     )
 
 returns-9 : tie.Need-returns-9
 unfolding read♯
 returns-9 c =
+    let at-if2 = c .before .before in
+    let at-if1 = at-if2 .before in
+    let at-byte = at-if1 .before in
     rw (
-      ← c .before .before .before .before .byte .ensures,
-      ne-eqb _ 73 (c .before .before .before .if1 .left),
-      ne-eqb _ 68 (c .before .before .if2 .left),
+      ← at-byte .byte .ensures,
+      ne-eqb _ 73 (at-if1 .if1 .left),
+      ne-eqb _ 68 (at-if2 .if2 .left),
       ne-eqb _ 67 (c .before .if3 .left),
       ne-eqb _ 76 (c .if4 .left),
     )

@@ -34,10 +34,13 @@ enum-told-2 c = search needs
 returns-2 : tie.Need-returns-2
 unfolding readBox♯
 returns-2 c =
+    let at-read-field2 = c .before .before in
+    let at-x1 = at-read-field2 .before .before in
+    let at-read-field = at-x1 .before .before in
     rw (
-      ← c .before .before .before .before .before .before .read-field .ensures,
-      c .before .before .before .before .x1 .given .1,
-      ← c .before .before .read-field2 .ensures,
+      ← at-read-field .read-field .ensures,
+      at-x1 .x1 .given .1,
+      ← at-read-field2 .read-field2 .ensures,
       c .enum-told2 .given .1,
     )
 
@@ -53,12 +56,17 @@ enum-told-3 c = search needs
 returns-3 : tie.Need-returns-3
 unfolding readBox♯
 returns-3 c =
+    let at-read-field3 = c .before .before in
+    let at-x2 = at-read-field3 .before .before in
+    let at-read-field2 = at-x2 .before .before in
+    let at-x1 = at-read-field2 .before .before in
+    let at-read-field = at-x1 .before .before in
     rw (
-      ← c .before .before .before .before .before .before .before .before .before .before .read-field .ensures,
-      c .before .before .before .before .before .before .before .before .x1 .given .1,
-      ← c .before .before .before .before .before .before .read-field2 .ensures,
-      c .before .before .before .before .x2 .given .1,
-      ← c .before .before .read-field3 .ensures,
+      ← at-read-field .read-field .ensures,
+      at-x1 .x1 .given .1,
+      ← at-read-field2 .read-field2 .ensures,
+      at-x2 .x2 .given .1,
+      ← at-read-field3 .read-field3 .ensures,
       c .enum-told3 .given .1,
     )
 
@@ -74,44 +82,67 @@ enum-told-4 c = search needs
 returns-4 : tie.Need-returns-4
 unfolding readBox♯
 returns-4 c =
+    let at-read-field4 = c .before .before in
+    let at-y1 = at-read-field4 .before .before in
+    let at-read-field3 = at-y1 .before .before in
+    let at-x2 = at-read-field3 .before .before in
+    let at-read-field2 = at-x2 .before .before in
+    let at-x1 = at-read-field2 .before .before in
+    let at-read-field = at-x1 .before .before in
     rw (
-      ← c .before .before .before .before .before .before .before .before .before .before .before .before .before .before .read-field .ensures,
-      c .before .before .before .before .before .before .before .before .before .before .before .before .x1 .given .1,
-      ← c .before .before .before .before .before .before .before .before .before .before .read-field2 .ensures,
-      c .before .before .before .before .before .before .before .before .x2 .given .1,
-      ← c .before .before .before .before .before .before .read-field3 .ensures,
-      c .before .before .before .before .y1 .given .1,
-      ← c .before .before .read-field4 .ensures,
+      ← at-read-field .read-field .ensures,
+      at-x1 .x1 .given .1,
+      ← at-read-field2 .read-field2 .ensures,
+      at-x2 .x2 .given .1,
+      ← at-read-field3 .read-field3 .ensures,
+      at-y1 .y1 .given .1,
+      ← at-read-field4 .read-field4 .ensures,
       c .enum-told4 .given .1,
     )
 
 returns-5 : tie.Need-returns-5
 unfolding readBox♯
 returns-5 c =
+    let at-y2 = c .before .before in
+    let at-read-field4 = at-y2 .before .before in
+    let at-y1 = at-read-field4 .before .before in
+    let at-read-field3 = at-y1 .before .before in
+    let at-x2 = at-read-field3 .before .before in
+    let at-read-field2 = at-x2 .before .before in
+    let at-x1 = at-read-field2 .before .before in
+    let at-read-field = at-x1 .before .before in
     rw (
-      ← c .before .before .before .before .before .before .before .before .before .before .before .before .before .before .before .before .read-field .ensures,
-      c .before .before .before .before .before .before .before .before .before .before .before .before .before .before .x1 .given .1,
-      ← c .before .before .before .before .before .before .before .before .before .before .before .before .read-field2 .ensures,
-      c .before .before .before .before .before .before .before .before .before .before .x2 .given .1,
-      ← c .before .before .before .before .before .before .before .before .read-field3 .ensures,
-      c .before .before .before .before .before .before .y1 .given .1,
-      ← c .before .before .before .before .read-field4 .ensures,
-      c .before .before .y2 .given .1,
+      ← at-read-field .read-field .ensures,
+      at-x1 .x1 .given .1,
+      ← at-read-field2 .read-field2 .ensures,
+      at-x2 .x2 .given .1,
+      ← at-read-field3 .read-field3 .ensures,
+      at-y1 .y1 .given .1,
+      ← at-read-field4 .read-field4 .ensures,
+      at-y2 .y2 .given .1,
       atEnd-more _ _ _ (c .if1 .taken),
     )
 
 returns-6 : tie.Need-returns-6
 unfolding readBox♯
 returns-6 c =
+    let at-y2 = c .before .before in
+    let at-read-field4 = at-y2 .before .before in
+    let at-y1 = at-read-field4 .before .before in
+    let at-read-field3 = at-y1 .before .before in
+    let at-x2 = at-read-field3 .before .before in
+    let at-read-field2 = at-x2 .before .before in
+    let at-x1 = at-read-field2 .before .before in
+    let at-read-field = at-x1 .before .before in
     rw (
-      ← c .before .before .before .before .before .before .before .before .before .before .before .before .before .before .before .before .read-field .ensures,
-      c .before .before .before .before .before .before .before .before .before .before .before .before .before .before .x1 .given .1,
-      ← c .before .before .before .before .before .before .before .before .before .before .before .before .read-field2 .ensures,
-      c .before .before .before .before .before .before .before .before .before .before .x2 .given .1,
-      ← c .before .before .before .before .before .before .before .before .read-field3 .ensures,
-      c .before .before .before .before .before .before .y1 .given .1,
-      ← c .before .before .before .before .read-field4 .ensures,
-      c .before .before .y2 .given .1,
+      ← at-read-field .read-field .ensures,
+      at-x1 .x1 .given .1,
+      ← at-read-field2 .read-field2 .ensures,
+      at-x2 .x2 .given .1,
+      ← at-read-field3 .read-field3 .ensures,
+      at-y1 .y1 .given .1,
+      ← at-read-field4 .read-field4 .ensures,
+      at-y2 .y2 .given .1,
       atEnd-end _ _ _ (c .if1 .left),
     )
 

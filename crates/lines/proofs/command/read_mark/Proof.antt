@@ -34,10 +34,13 @@ enum-told-2 c = search needs
 returns-2 : tie.Need-returns-2
 unfolding readMark♯
 returns-2 c =
+    let at-read-field2 = c .before .before in
+    let at-x = at-read-field2 .before .before in
+    let at-read-field = at-x .before .before in
     rw (
-      ← c .before .before .before .before .before .before .read-field .ensures,
-      c .before .before .before .before .x .given .1,
-      ← c .before .before .read-field2 .ensures,
+      ← at-read-field .read-field .ensures,
+      at-x .x .given .1,
+      ← at-read-field2 .read-field2 .ensures,
       c .enum-told2 .given .1,
     )
 
@@ -53,38 +56,55 @@ enum-told-3 c = search needs
 returns-3 : tie.Need-returns-3
 unfolding readMark♯
 returns-3 c =
+    let at-read-field3 = c .before .before in
+    let at-y = at-read-field3 .before .before in
+    let at-read-field2 = at-y .before .before in
+    let at-x = at-read-field2 .before .before in
+    let at-read-field = at-x .before .before in
     rw (
-      ← c .before .before .before .before .before .before .before .before .before .before .read-field .ensures,
-      c .before .before .before .before .before .before .before .before .x .given .1,
-      ← c .before .before .before .before .before .before .read-field2 .ensures,
-      c .before .before .before .before .y .given .1,
-      ← c .before .before .read-field3 .ensures,
+      ← at-read-field .read-field .ensures,
+      at-x .x .given .1,
+      ← at-read-field2 .read-field2 .ensures,
+      at-y .y .given .1,
+      ← at-read-field3 .read-field3 .ensures,
       c .enum-told3 .given .1,
     )
 
 returns-4 : tie.Need-returns-4
 unfolding readMark♯
 returns-4 c =
+    let at-tag = c .before .before in
+    let at-read-field3 = at-tag .before .before in
+    let at-y = at-read-field3 .before .before in
+    let at-read-field2 = at-y .before .before in
+    let at-x = at-read-field2 .before .before in
+    let at-read-field = at-x .before .before in
     rw (
-      ← c .before .before .before .before .before .before .before .before .before .before .before .before .read-field .ensures,
-      c .before .before .before .before .before .before .before .before .before .before .x .given .1,
-      ← c .before .before .before .before .before .before .before .before .read-field2 .ensures,
-      c .before .before .before .before .before .before .y .given .1,
-      ← c .before .before .before .before .read-field3 .ensures,
-      c .before .before .tag .given .1,
+      ← at-read-field .read-field .ensures,
+      at-x .x .given .1,
+      ← at-read-field2 .read-field2 .ensures,
+      at-y .y .given .1,
+      ← at-read-field3 .read-field3 .ensures,
+      at-tag .tag .given .1,
       atEnd-more _ _ _ (c .if1 .taken),
     )
 
 returns-5 : tie.Need-returns-5
 unfolding readMark♯
 returns-5 c =
+    let at-tag = c .before .before in
+    let at-read-field3 = at-tag .before .before in
+    let at-y = at-read-field3 .before .before in
+    let at-read-field2 = at-y .before .before in
+    let at-x = at-read-field2 .before .before in
+    let at-read-field = at-x .before .before in
     rw (
-      ← c .before .before .before .before .before .before .before .before .before .before .before .before .read-field .ensures,
-      c .before .before .before .before .before .before .before .before .before .before .x .given .1,
-      ← c .before .before .before .before .before .before .before .before .read-field2 .ensures,
-      c .before .before .before .before .before .before .y .given .1,
-      ← c .before .before .before .before .read-field3 .ensures,
-      c .before .before .tag .given .1,
+      ← at-read-field .read-field .ensures,
+      at-x .x .given .1,
+      ← at-read-field2 .read-field2 .ensures,
+      at-y .y .given .1,
+      ← at-read-field3 .read-field3 .ensures,
+      at-tag .tag .given .1,
       atEnd-end _ _ _ (c .if1 .left),
     )
 

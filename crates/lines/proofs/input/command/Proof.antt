@@ -12,7 +12,8 @@ returns c l g = let a = c .before .before .args in gathered-long (a .line .now) 
 
 returns-2 : tie.Need-returns-2
 returns-2 c l g =
-    let a = c .before .before .before .args in
+    let at-start = c .before .before .before in
+    let a = at-start .args in
     absurd (omega (arith, c .if2 .taken, c .before .if1 .left, gathered-room (a .line .now) (a .len) l g))
 
 sub-read : tie.Need-sub-read
@@ -29,8 +30,11 @@ read-requires c κs = search needs
 
 returns-3 : tie.Need-returns-3
 returns-3 c l g =
-    let a = c .before .before .before .before .before .args in
-    gathered-short (a .line .now) (a .len) l g (c .before .before .before .if1 .left) (lineOf (c .read .result)) (rw (sub-zero (a .len)) at (c .read .ensures))
+    let at-if1 = c .before .before .before in
+    let at-start = at-if1 .before .before in
+    let a = at-start .args in
+    gathered-short (a .line .now) (a .len) l g (at-if1 .if1 .left) (lineOf (c .read .result))
+    (rw (sub-zero (a .len)) at (c .read .ensures))
 
 pub command-spec : {M : Type 1} → statement M
 command-spec = tie.close (tie.spec returns returns-2 sub-read part-read-start part-read-end read-requires returns-3)

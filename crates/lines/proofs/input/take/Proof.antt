@@ -21,9 +21,11 @@ same-length c = search needs
 returns-2 : tie.Need-returns-2
 unfolding gather
 returns-2 c =
-    let start = c .before .before .before .before .before .before in
-    let done = c .before .before .put-byte .ensures in
-    rw (lt-leb 48 (start .args .len) (c .before .before .before .before .if1 .left)) (λ i. record { out = done .next i; words = done .bytes i })
+    let at-put-byte = c .before .before in
+    let at-if1 = at-put-byte .before .before in
+    let start = at-if1 .before .before in
+    let done = at-put-byte .put-byte .ensures in
+    rw (lt-leb 48 (start .args .len) (at-if1 .if1 .left)) (λ i. record { out = done .next i; words = done .bytes i })
 
 pub take-spec : {M : Type 1} → statement M
 take-spec = tie.close (tie.spec add-result returns put-byte-requires same-length returns-2)

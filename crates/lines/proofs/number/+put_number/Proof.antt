@@ -38,7 +38,8 @@ put-number-add-put-byte : (t : ℕ) → put-number-lts.Need-add-put-byte (said t
 put-number-add-put-byte t c = search needs
 
 -- src/number.rt:93:9
-put-number-put-byte-requires : (t : ℕ) → put-number-lts.Need-put-byte-requires (said t) (put-number-at t) put-number.Post
+put-number-put-byte-requires :
+    (t : ℕ) → put-number-lts.Need-put-byte-requires (said t) (put-number-at t) put-number.Post
 put-number-put-byte-requires t c κs =
     let start = c .before .before .before in
     omega (arith, start .pre .1, ap length (digits-single (start .args .n) (c .before .if1 .taken)))
@@ -50,14 +51,19 @@ put-number-same-length t c = search needs
 -- src/number.rt:93:9
 put-number-returns : (t : ℕ) → put-number-lts.Need-returns (said t) (put-number-at t) put-number.Post
 put-number-returns t c =
-    let start = c .before .before .before .before .before .before in
-    rw (digits-single (start .args .n) (c .before .before .before .before .if1 .taken)) (c .before .before .put-byte .ensures)
+    let at-put-byte = c .before .before in
+    let at-if1 = at-put-byte .before .before in
+    let start = at-if1 .before .before in
+    rw (digits-single (start .args .n) (at-if1 .if1 .taken)) (at-put-byte .put-byte .ensures)
 
 -- src/number.rt:95:9
-put-number-put-number-requires : (t : ℕ) → put-number-lts.Need-put-number-requires (said t) (put-number-at t) put-number.Post
+put-number-put-number-requires :
+    (t : ℕ) → put-number-lts.Need-put-number-requires (said t) (put-number-at t) put-number.Post
 put-number-put-number-requires t c κs =
-    let start = c .before .before .before in
-    (omega (arith, start .pre .0, c .before .if1 .left), omega (arith, start .pre .1, digits-longer (start .args .n) (c .before .if1 .left)))
+    let start = c .before .before .before in (
+      omega (arith, start .pre .0, c .before .if1 .left),
+      omega (arith, start .pre .1, digits-longer (start .args .n) (c .before .if1 .left)),
+    )
 
 -- src/number.rt:96:33
 put-number-cast-put-byte-2 : (t : ℕ) → put-number-lts.Need-cast-put-byte-2 (said t) (put-number-at t) put-number.Post
@@ -68,10 +74,18 @@ put-number-add-put-byte-2 : (t : ℕ) → put-number-lts.Need-add-put-byte-2 (sa
 put-number-add-put-byte-2 t c = search needs
 
 -- src/number.rt:96:5
-put-number-put-byte-requires-2 : (t : ℕ) → put-number-lts.Need-put-byte-requires-2 (said t) (put-number-at t) put-number.Post
+put-number-put-byte-requires-2 :
+    (t : ℕ) → put-number-lts.Need-put-byte-requires-2 (said t) (put-number-at t) put-number.Post
 put-number-put-byte-requires-2 t c κs =
-    let start = c .before .before .before .before .before .before .before in
-    omega (arith, start .pre .1, c .before .before .before .put-number .ensures .next, digits-longer (start .args .n) (c .before .before .before .before .before .if1 .left))
+    let at-put-number = c .before .before .before in
+    let at-if1 = at-put-number .before .before in
+    let start = at-if1 .before .before in
+    omega (
+      arith,
+      start .pre .1,
+      at-put-number .put-number .ensures .next,
+      digits-longer (start .args .n) (at-if1 .if1 .left),
+    )
 
 -- src/number.rt:88:1
 put-number-same-length-2 : (t : ℕ) → put-number-lts.Need-same-length-2 (said t) (put-number-at t) put-number.Post
@@ -80,9 +94,13 @@ put-number-same-length-2 t c = search needs
 -- src/number.rt:88:1
 put-number-returns-2 : (t : ℕ) → put-number-lts.Need-returns-2 (said t) (put-number-at t) put-number.Post
 put-number-returns-2 t c =
-    let start = c .before .before .before .before .before .before .before .before .before .before in
-    let more = c .before .before .before .before .before .before .before .before .if1 .left in
-    rw (digits-more (start .args .n) more) (wrote-then (c .before .before .before .before .before .before .put-number .ensures) (c .before .before .put-byte2 .ensures))
+    let at-put-byte2 = c .before .before in
+    let at-put-number = at-put-byte2 .before .before .before .before in
+    let at-if1 = at-put-number .before .before in
+    let start = at-if1 .before .before in
+    let more = at-if1 .if1 .left in
+    rw (digits-more (start .args .n) more)
+    (wrote-then (at-put-number .put-number .ensures) (at-put-byte2 .put-byte2 .ensures))
 
 pub +put-number-spec : {M : Type 1} → statement M
 +put-number-spec = close μ-put-number λ t. put-number-lts.spec (said t)

@@ -19,7 +19,10 @@ same-length c = ⊎-elim (λ w. ap length (w .1) ∙ simp length-set) (λ w. ap 
 returns : tie.Need-returns
 returns c =
     let a = c .before .args in
-    record { next = refl; bytes = ⊎-elim (λ w. w .1) (λ w. w .1 ∙ sym (set-out (a .out .now) (a .at) (a .b) (w .0 .left))) (c .if1 .came) }
+    record {
+      next = refl;
+      bytes = ⊎-elim (λ w. w .1) (λ w. w .1 ∙ sym (set-out (a .out .now) (a .at) (a .b) (w .0 .left))) (c .if1 .came);
+    }
 
 pub put-byte-spec : {M : Type 1} → statement M
 put-byte-spec = tie.close (tie.spec slice-write-out add-result same-length returns)

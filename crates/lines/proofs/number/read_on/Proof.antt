@@ -1,4 +1,5 @@
--- `read_on` meets its contract. The loop's invariant: what is left to read goes on from the value read so far, which fits a word. Assumes nothing.
+-- `read_on` meets its contract. The loop keeps: what is left to read goes on from the value read so far, which fits a word. What falls: the bytes left.
+-- Assumes nothing.
 use Prim.Native.Nat.{_-_, _<_}
 use mathlib.Core.Path.{_≡_, refl, sym, _∙_}
 use native.Mathlib.Omega.{arith}
@@ -10,7 +11,8 @@ use Rattle.lines.proofs.number.read_on.Statement.{statement}
 use Rattle.lines.proofs.number.read_on.Tie as tie
 
 abbrev Inv-loop : tie.InvT-loop
-Inv-loop line from v at₀ value₀ at value = (value < 4294967296) × (readOn♯ value (drop at line) ≡ readOn♯ v (drop from line))
+Inv-loop line from v at₀ value₀ at value =
+    (value < 4294967296) × (readOn♯ value (drop at line) ≡ readOn♯ v (drop from line))
 
 abbrev μ-loop : tie.MeasureT-loop
 μ-loop line from v at₀ value₀ at value = length line - at
@@ -26,8 +28,10 @@ cast-t12 c = search needs
 
 returns : tie.Need-returns Inv-loop μ-loop
 returns c =
-    let at = c .before .before .before .loop in
-    let line = c .before .before .before .before .args .line .now in
+    let at-loop = c .before .before .before in
+    let at-start = at-loop .before in
+    let at = at-loop .loop in
+    let line = at-start .args .line .now in
     sym (readOn-low line (at .at) _ refl (at .value) (c .if1 .taken)) ∙ at .inv .1
 
 cast-t13 : tie.Need-cast-t13 Inv-loop μ-loop
@@ -35,8 +39,10 @@ cast-t13 c = search needs
 
 returns-2 : tie.Need-returns-2 Inv-loop μ-loop
 returns-2 c =
-    let at = c .before .before .before .before .loop in
-    let line = c .before .before .before .before .before .args .line .now in
+    let at-loop = c .before .before .before .before in
+    let at-start = at-loop .before in
+    let at = at-loop .loop in
+    let line = at-start .args .line .now in
     sym (readOn-high line (at .at) _ refl (at .value) (c .if2 .taken)) ∙ at .inv .1
 
 mul-more : tie.Need-mul-more Inv-loop μ-loop
@@ -50,10 +56,14 @@ add-more c = search needs
 
 returns-3 : tie.Need-returns-3 Inv-loop μ-loop
 returns-3 c =
-    let at = c .before .before .before .before .before .loop in
-    let line = c .before .before .before .before .before .before .args .line .now in
-    let inside = c .before .before .before .before .loop-test .taken in
-    sym (readOn-large line (at .at) _ refl (at .value) inside (c .before .before .if1 .left) (c .before .if2 .left) (c .if3 .taken)) ∙ at .inv .1
+    let at-if1 = c .before .before in
+    let at-loop-test = at-if1 .before .before in
+    let at-loop = at-loop-test .before in
+    let at-start = at-loop .before in
+    let at = at-loop .loop in
+    let line = at-start .args .line .now in
+    let inside = at-loop-test .loop-test .taken in
+    sym (readOn-large line (at .at) _ refl (at .value) inside (at-if1 .if1 .left) (c .before .if2 .left) (c .if3 .taken)) ∙ at .inv .1
 
 add-at : tie.Need-add-at Inv-loop μ-loop
 add-at c = search needs
@@ -63,11 +73,15 @@ loop-less c = search needs
 
 loop-again : tie.Need-loop-again Inv-loop μ-loop
 loop-again c =
-    let at = c .before .before .before .before .before .loop in
-    let line = c .before .before .before .before .before .before .args .line .now in
-    let inside = c .before .before .before .before .loop-test .taken in (
+    let at-if1 = c .before .before in
+    let at-loop-test = at-if1 .before .before in
+    let at-loop = at-loop-test .before in
+    let at-start = at-loop .before in
+    let at = at-loop .loop in
+    let line = at-start .args .line .now in
+    let inside = at-loop-test .loop-test .taken in (
       omega (arith, c .if3 .left),
-      sym (readOn-digit line (at .at) _ refl (at .value) inside (c .before .before .if1 .left) (c .before .if2 .left) (c .if3 .left)) ∙ at .inv .1,
+      sym (readOn-digit line (at .at) _ refl (at .value) inside (at-if1 .if1 .left) (c .before .if2 .left) (c .if3 .left)) ∙ at .inv .1,
     )
 
 cast-t16 : tie.Need-cast-t16 Inv-loop μ-loop

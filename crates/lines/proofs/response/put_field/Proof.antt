@@ -11,14 +11,18 @@ put-byte-requires c κs = search needs
 
 put-number-requires : tie.Need-put-number-requires
 put-number-requires c κs =
-    let start = c .before .before .before .before .before .before in
-    omega (arith, c .before .before .before .put-byte .ensures .next, digits-short (start .args .n) (omega arith))
+    let at-put-byte = c .before .before .before in
+    let start = at-put-byte .before .before .before in
+    omega (arith, at-put-byte .put-byte .ensures .next, digits-short (start .args .n) (omega arith))
 
 same-length : tie.Need-same-length
 same-length c = search needs
 
 returns : tie.Need-returns
-returns c = wrote-then (c .before .before .before .before .before .before .put-byte .ensures) (c .before .before .put-number .ensures)
+returns c =
+    let at-put-number = c .before .before in
+    let at-put-byte = at-put-number .before .before .before .before in
+    wrote-then (at-put-byte .put-byte .ensures) (at-put-number .put-number .ensures)
 
 pub put-field-spec : {M : Type 1} → statement M
 put-field-spec = tie.close (tie.spec put-byte-requires put-number-requires same-length returns)

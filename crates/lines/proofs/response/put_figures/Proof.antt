@@ -15,17 +15,28 @@ put-field-requires c κs = search needs
 
 put-field-requires-2 : tie.Need-put-field-requires-2
 put-field-requires-2 c κs =
-    let start = c .before .before .before .before .before .before .before .before .before .before in
-    omega (arith, c .before .before .before .before .before .before .before .put-byte .ensures .next, c .before .before .before .put-field .ensures .next, digits-short (start .args .first) (omega arith), digits-short (start .args .second) (omega arith))
+    let at-put-field = c .before .before .before in
+    let at-put-byte = at-put-field .before .before .before .before in
+    let start = at-put-byte .before .before .before in
+    omega (
+      arith,
+      at-put-byte .put-byte .ensures .next,
+      at-put-field .put-field .ensures .next,
+      digits-short (start .args .first) (omega arith),
+      digits-short (start .args .second) (omega arith),
+    )
 
 put-byte-requires-2 : tie.Need-put-byte-requires-2
 put-byte-requires-2 c κs =
-    let start = c .before .before .before .before .before .before .before .before .before .before .before .before .before .before in
+    let at-put-field2 = c .before .before .before in
+    let at-put-field = at-put-field2 .before .before .before .before in
+    let at-put-byte = at-put-field .before .before .before .before in
+    let start = at-put-byte .before .before .before in
     omega (
       arith,
-      c .before .before .before .before .before .before .before .before .before .before .before .put-byte .ensures .next,
-      c .before .before .before .before .before .before .before .put-field .ensures .next,
-      c .before .before .before .put-field2 .ensures .next,
+      at-put-byte .put-byte .ensures .next,
+      at-put-field .put-field .ensures .next,
+      at-put-field2 .put-field2 .ensures .next,
       digits-short (start .args .first) (omega arith),
       digits-short (start .args .second) (omega arith),
     )
@@ -35,9 +46,15 @@ same-length c = search needs
 
 returns : tie.Need-returns
 returns c =
-    let a = c .before .before .before .before .before .before .before .before .before .before .before .before .before .before .before .before .before .args in
-    let front = wrote-then (wrote-then (c .before .before .before .before .before .before .before .before .before .before .before .before .before .before .put-byte .ensures) (c .before .before .before .before .before .before .before .before .before .before .put-field .ensures)) (c .before .before .before .before .before .before .put-field2 .ensures) in
-    let whole = rw (answer-parts (a .letter) (a .first) (a .second)) at (wrote-then front (c .before .before .put-byte2 .ensures)) in
+    let at-put-byte2 = c .before .before in
+    let at-put-field2 = at-put-byte2 .before .before .before .before in
+    let at-put-field = at-put-field2 .before .before .before .before in
+    let at-put-byte = at-put-field .before .before .before .before in
+    let at-start = at-put-byte .before .before .before in
+    let a = at-start .args in
+    let begun = wrote-then (at-put-byte .put-byte .ensures) (at-put-field .put-field .ensures) in
+    let front = wrote-then begun (at-put-field2 .put-field2 .ensures) in
+    let whole = rw (answer-parts (a .letter) (a .first) (a .second)) at (wrote-then front (at-put-byte2 .put-byte2 .ensures)) in
     (omega (arith, whole .next, figures-short (a .letter) (a .first) (a .second) (omega arith) (omega arith)), whole)
 
 pub put-figures-spec : {M : Type 1} → statement M

@@ -21,11 +21,12 @@ put-number-requires c κs =
 
 put-field-requires : tie.Need-put-field-requires
 put-field-requires c κs =
-    let start = c .before .before .before .before .before .before in
+    let at-put-number = c .before .before .before in
+    let start = at-put-number .before .before .before in
     omega (
       arith,
       start .pre,
-      c .before .before .before .put-number .ensures .next,
+      at-put-number .put-number .ensures .next,
       digits-short (start .args .m .x) (omega arith),
       digits-short (start .args .m .y) (omega arith),
       digits-short (start .args .m .tag) (omega arith),
@@ -33,12 +34,14 @@ put-field-requires c κs =
 
 put-field-requires-2 : tie.Need-put-field-requires-2
 put-field-requires-2 c κs =
-    let start = c .before .before .before .before .before .before .before .before .before .before in
+    let at-put-field = c .before .before .before in
+    let at-put-number = at-put-field .before .before .before .before in
+    let start = at-put-number .before .before .before in
     omega (
       arith,
       start .pre,
-      c .before .before .before .before .before .before .before .put-number .ensures .next,
-      c .before .before .before .put-field .ensures .next,
+      at-put-number .put-number .ensures .next,
+      at-put-field .put-field .ensures .next,
       digits-short (start .args .m .x) (omega arith),
       digits-short (start .args .m .y) (omega arith),
       digits-short (start .args .m .tag) (omega arith),
@@ -46,12 +49,14 @@ put-field-requires-2 c κs =
 
 put-byte-requires : tie.Need-put-byte-requires
 put-byte-requires c κs =
-    let start = c .before .before .before .before .before .before .before .before .before .before .before .before .before .before in
+    let at-put-field = c .before .before .before .before .before .before .before in
+    let at-put-number = at-put-field .before .before .before .before in
+    let start = at-put-number .before .before .before in
     omega (
       arith,
       start .pre,
-      c .before .before .before .before .before .before .before .before .before .before .before .put-number .ensures .next,
-      c .before .before .before .before .before .before .before .put-field .ensures .next,
+      at-put-number .put-number .ensures .next,
+      at-put-field .put-field .ensures .next,
       c .before .before .before .put-field2 .ensures .next,
       digits-short (start .args .m .x) (omega arith),
       digits-short (start .args .m .y) (omega arith),
@@ -63,9 +68,15 @@ same-length c = search needs
 
 returns : tie.Need-returns
 returns c =
-    let m = markValue (c .before .before .before .before .before .before .before .before .before .before .before .before .before .before .before .before .before .args .m) in
-    let front = wrote-then (wrote-then (c .before .before .before .before .before .before .before .before .before .before .before .before .before .before .put-number .ensures) (c .before .before .before .before .before .before .before .before .before .before .put-field .ensures)) (c .before .before .before .before .before .before .put-field2 .ensures) in
-    rw (← mark-parts m) (wrote-then front (c .before .before .put-byte .ensures))
+    let at-put-byte = c .before .before in
+    let at-put-field2 = at-put-byte .before .before .before .before in
+    let at-put-field = at-put-field2 .before .before .before .before in
+    let at-put-number = at-put-field .before .before .before .before in
+    let at-start = at-put-number .before .before .before in
+    let m = markValue (at-start .args .m) in
+    let begun = wrote-then (at-put-number .put-number .ensures) (at-put-field .put-field .ensures) in
+    let front = wrote-then begun (at-put-field2 .put-field2 .ensures) in
+    rw (← mark-parts m) (wrote-then front (at-put-byte .put-byte .ensures))
 
 pub put-mark-spec : {M : Type 1} → statement M
 put-mark-spec =

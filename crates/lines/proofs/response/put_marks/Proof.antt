@@ -1,4 +1,4 @@
--- `put_marks` meets its contract. The loop's invariant: the lines of the first i marks are written, at most 33 bytes each. Assumes nothing.
+-- `put_marks` meets its contract. The loop keeps: the lines of the first i marks are written, at most 33 bytes each. What falls: k - i. Assumes nothing.
 use Prim.Native.Nat.{_+_, _-_, _*_, _≤_}
 use mathlib.Core.Path.{_≡_, refl, _∙_}
 use native.Mathlib.Omega.{arith}
@@ -27,7 +27,10 @@ listed-requires : tie.Need-listed-requires Inv-loop μ-loop
 listed-requires c κs = search needs
 
 put-mark-requires : tie.Need-put-mark-requires Inv-loop μ-loop
-put-mark-requires c κs = omega (arith, c .before .before .loop-test .taken, c .before .before .before .loop .inv .1)
+put-mark-requires c κs =
+    let at-loop-test = c .before .before in
+    let at-loop = at-loop-test .before in
+    omega (arith, at-loop-test .loop-test .taken, at-loop .loop .inv .1)
 
 add-i : tie.Need-add-i Inv-loop μ-loop
 add-i c = search needs
@@ -37,11 +40,16 @@ loop-less c = search needs
 
 loop-again : tie.Need-loop-again Inv-loop μ-loop
 loop-again c =
-    let at = c .before .before .before .before .before .before .loop in
-    let list = c .before .before .before .before .before .before .before .before .before .args .list .now in
-    let more = c .before .before .before .before .before .loop-test .taken in
-    let m = c .before .before .before .before .listed in
-    let done = c .before .before .put-mark in
+    let at-put-mark = c .before .before in
+    let at-listed = at-put-mark .before .before in
+    let at-loop-test = at-listed .before in
+    let at-loop = at-loop-test .before in
+    let at-start = at-loop .before .before .before in
+    let at = at-loop .loop in
+    let list = at-start .args .list .now in
+    let more = at-loop-test .loop-test .taken in
+    let m = at-listed .listed in
+    let done = at-put-mark .put-mark in
     let short = mark-short (markValue (m .result)) (omega (arith, m .ok)) (omega (arith, m .ok)) (omega (arith, m .ok)) in (
       omega (arith, more),
       omega (arith, at .inv .1, done .ensures .next, short),
@@ -54,10 +62,11 @@ same-length c = search needs
 
 returns : tie.Need-returns Inv-loop μ-loop
 returns c =
-    let at = c .before .loop in
     let start = c .before .before .before .before in
+    let at = c .before .loop in
     let all : at .i ≡ start .args .k = omega (arith, at .inv .0, c .loop-test .left) in
     rw (← all) (at .inv .1, at .inv .3)
 
 pub put-marks-spec : {M : Type 1} → statement M
-put-marks-spec = tie.close (tie.spec Inv-loop μ-loop loop-holds listed-requires put-mark-requires add-i loop-less loop-again same-length returns)
+put-marks-spec =
+    tie.close (tie.spec Inv-loop μ-loop loop-holds listed-requires put-mark-requires add-i loop-less loop-again same-length returns)

@@ -15,17 +15,28 @@ put-field-requires c κs = search needs
 
 put-byte-requires-2 : tie.Need-put-byte-requires-2
 put-byte-requires-2 c κs =
-    let start = c .before .before .before .before .before .before .before .before .before .before in
-    omega (arith, c .before .before .before .before .before .before .before .put-byte .ensures .next, c .before .before .before .put-field .ensures .next, digits-short (start .args .number) (omega arith))
+    let at-put-field = c .before .before .before in
+    let at-put-byte = at-put-field .before .before .before .before in
+    let start = at-put-byte .before .before .before in
+    omega (
+      arith,
+      at-put-byte .put-byte .ensures .next,
+      at-put-field .put-field .ensures .next,
+      digits-short (start .args .number) (omega arith),
+    )
 
 same-length : tie.Need-same-length
 same-length c = search needs
 
 returns : tie.Need-returns
 returns c =
-    let n = c .before .before .before .before .before .before .before .before .before .before .before .before .before .args .number in
-    let text = wrote-then (wrote-then (c .before .before .before .before .before .before .before .before .before .before .put-byte .ensures) (c .before .before .before .before .before .before .put-field .ensures)) (c .before .before .put-byte2 .ensures) in
-    let whole = rw (refusal-parts n) at text in
+    let at-put-byte2 = c .before .before in
+    let at-put-field = at-put-byte2 .before .before .before .before in
+    let at-put-byte = at-put-field .before .before .before .before in
+    let at-start = at-put-byte .before .before .before in
+    let n = at-start .args .number in
+    let front = wrote-then (at-put-byte .put-byte .ensures) (at-put-field .put-field .ensures) in
+    let whole = rw (refusal-parts n) at (wrote-then front (at-put-byte2 .put-byte2 .ensures)) in
     (omega (arith, whole .next, refusal-short n (omega arith)), whole)
 
 pub put-refusal-spec : {M : Type 1} → statement M

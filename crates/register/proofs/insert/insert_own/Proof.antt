@@ -92,7 +92,12 @@ same-length-4 c = search needs
 -- src/insert.rt:19:1
 returns-4 : tie.Need-returns-4
 unfolding insertOwn♯ insertFound
-returns-4 c = rw (← find-read _ _ (c .before .before .before .before .before .pre .0) _ _ (c .before .before .find .ensures), ne-eqb _ _ (c .before .if1 .left), ne-eqb _ _ (c .if2 .left))
+returns-4 c =
+    rw (
+      ← find-read _ _ (c .before .before .before .before .before .pre .0) _ _ (c .before .before .find .ensures),
+      ne-eqb _ _ (c .before .if1 .left),
+      ne-eqb _ _ (c .if2 .left),
+    )
 
 pub insert-own-spec : {M : Type 1} → statement M
 insert-own-spec =

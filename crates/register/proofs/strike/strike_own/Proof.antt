@@ -33,7 +33,12 @@ same-length-2 c = search needs
 -- src/strike.rt:32:9
 returns-2 : tie.Need-returns-2
 unfolding strikeOwn♯ strikeFound settledAfter
-returns-2 c = rw (← find-read _ _ (c .before .before .before .before .before .pre .0) _ _ (c .before .before .find .ensures), ne-eqb _ _ (c .before .if1 .left), eq-eqb _ _ (c .if2 .taken))
+returns-2 c =
+    rw (
+      ← find-read _ _ (c .before .before .before .before .before .pre .0) _ _ (c .before .before .find .ensures),
+      ne-eqb _ _ (c .before .if1 .left),
+      eq-eqb _ _ (c .if2 .taken),
+    )
 
 -- src/strike.rt:35:9
 strike-requires : tie.Need-strike-requires

@@ -1,3 +1,4 @@
+-- `empty` meets its contract: every slot made free, then the header word by word. Assumes nothing.
 use borrow.Author.Needs.{needs}
 use Rattle.whole_table.proofs.empty.empty.Statement.{statement}
 use Rattle.whole_table.specs.Empty.{empty♯}
@@ -34,7 +35,21 @@ same-length c = search needs
 -- src/empty.rt:21:1
 returns : tie.Need-returns
 unfolding empty♯
-returns c = rw (← c .before .before .before .before .before .before .before .before .before .before .before .before .before .before .before .before .before .before .before .free-slots .ensures, ← c .before .before .before .before .before .before .before .before .before .before .before .before .before .before .before .put-capacity .ensures, ← c .before .before .before .before .before .before .before .before .before .before .before .put-live .ensures, ← c .before .before .before .before .before .before .before .none .ensures, ← c .before .before .before .before .before .before .store .ensures, ← c .before .before .put-open .ensures)
+returns c =
+    let at-put-open = c .before .before in
+    let at-store = at-put-open .before .before .before .before in
+    let at-none = at-store .before in
+    let at-put-live = at-none .before .before .before .before in
+    let at-put-capacity = at-put-live .before .before .before .before in
+    let at-free-slots = at-put-capacity .before .before .before .before in
+    rw (
+      ← at-free-slots .free-slots .ensures,
+      ← at-put-capacity .put-capacity .ensures,
+      ← at-put-live .put-live .ensures,
+      ← at-none .none .ensures,
+      ← at-store .store .ensures,
+      ← at-put-open .put-open .ensures,
+    )
 
 pub empty-spec : {M : Type 1} → statement M
 empty-spec =

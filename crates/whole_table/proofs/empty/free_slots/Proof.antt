@@ -1,3 +1,4 @@
+-- `free_slots` meets its contract. The loop keeps: the length, left ≤ capacity, and freeSlots♯ of left on t is that of capacity on t₀. What falls: left.
 use Prim.Native.Nat.{_<_, _≤_}
 use mathlib.Core.Path.{_≡_}
 use native.Mathlib.Omega.{arith}
@@ -9,7 +10,8 @@ use borrow.Author.Needs.{needs}
 use Rattle.whole_table.proofs.empty.free_slots.Tie as tie
 
 abbrev Inv-loop : tie.InvT-loop
-Inv-loop t₀ capacity left₀ t left = (length t ≡ length t₀) × (left ≤ capacity) × (freeSlots♯ left capacity t ≡ freeSlots♯ capacity capacity t₀)
+Inv-loop t₀ capacity left₀ t left =
+    (length t ≡ length t₀) × (left ≤ capacity) × (freeSlots♯ left capacity t ≡ freeSlots♯ capacity capacity t₀)
 
 abbrev μ-loop : tie.MeasureT-loop
 μ-loop t₀ capacity left₀ t left = left
@@ -32,21 +34,27 @@ put-place-requires c κs = search needs
 
 -- src/empty.rt:13:5
 loop-less : tie.Need-loop-less Inv-loop μ-loop
-loop-less c = omega (arith, c .before .before .before .before .before .before .before .before .loop-test .taken)
+loop-less c =
+    let at-loop-test = c .before .before .before .before .before .before .before .before in
+    omega (arith, at-loop-test .loop-test .taken)
 
 -- src/empty.rt:13:5
 loop-again : tie.Need-loop-again Inv-loop μ-loop
 unfolding ownPlace
-loop-again c = (
-  search (needs, c .before .before .before .before .before .before .before .before .before .loop .inv .0),
-  omega (arith, c .before .before .before .before .before .before .before .before .before .loop .inv .1),
-  rw (
-    ← c .before .before .before .before .before .before .before .before .before .loop .inv .2,
-    freeSlots♯-suc _ (positive _ (c .before .before .before .before .before .before .before .before .loop-test .taken)),
-    ← c .before .before .before .before .before .before .put-used .ensures,
-    ← c .before .before .put-place .ensures,
-  ),
-)
+loop-again c =
+    let at-put-place = c .before .before in
+    let at-put-used = at-put-place .before .before .before .before in
+    let at-loop-test = at-put-used .before .before in
+    let at-loop = at-loop-test .before in (
+      search (needs, at-loop .loop .inv .0),
+      omega (arith, at-loop .loop .inv .1),
+      rw (
+        ← at-loop .loop .inv .2,
+        freeSlots♯-suc _ (positive _ (at-loop-test .loop-test .taken)),
+        ← at-put-used .put-used .ensures,
+        ← at-put-place .put-place .ensures,
+      ),
+    )
 
 -- src/empty.rt:9:1
 same-length : tie.Need-same-length Inv-loop μ-loop

@@ -1,3 +1,4 @@
+-- `free_slot` meets its contract: the slot changes places with the last live one, call by call as in the mirror. Assumes nothing.
 use borrow.Author.Needs.{needs}
 use Rattle.whole_table.proofs.strike.free_slot.Statement.{statement}
 use Rattle.whole_table.specs.Strike.{exchanged, freeSlot♯, freeWithin}
@@ -50,7 +51,29 @@ same-length c = search needs
 -- src/strike.rt:12:1
 returns : tie.Need-returns
 unfolding freeSlot♯ freeWithin exchanged
-returns c = rw (← c .before .before .before .before .before .before .before .before .before .before .before .before .before .before .before .before .before .before .before .before .before .before .before .before .before .before .before .capacity .ensures, ← c .before .before .before .before .before .before .before .before .before .before .before .before .before .before .before .before .before .before .before .before .before .before .before .before .before .live .ensures, ← c .before .before .before .before .before .before .before .before .before .before .before .before .before .before .before .before .before .before .before .before .before .before .before .before .fewer .ensures, ← c .before .before .before .before .before .before .before .before .before .before .before .before .before .before .before .before .before .before .before .before .before .before .place .ensures, ← c .before .before .before .before .before .before .before .before .before .before .before .before .before .before .before .before .before .before .before .before .used .ensures, ← c .before .before .before .before .before .before .before .before .before .before .before .before .before .before .before .before .before .before .put-used .ensures, ← c .before .before .before .before .before .before .before .before .before .before .before .before .before .before .put-place .ensures, ← c .before .before .before .before .before .before .before .before .before .before .put-used2 .ensures, ← c .before .before .before .before .before .before .put-place2 .ensures, ← c .before .before .put-live .ensures)
+returns c =
+    let at-put-live = c .before .before in
+    let at-put-place2 = at-put-live .before .before .before .before in
+    let at-put-used2 = at-put-place2 .before .before .before .before in
+    let at-put-place = at-put-used2 .before .before .before .before in
+    let at-put-used = at-put-place .before .before .before .before in
+    let at-used = at-put-used .before .before in
+    let at-place = at-used .before .before in
+    let at-fewer = at-place .before .before in
+    let at-live = at-fewer .before in
+    let at-capacity = at-live .before .before in
+    rw (
+      ← at-capacity .capacity .ensures,
+      ← at-live .live .ensures,
+      ← at-fewer .fewer .ensures,
+      ← at-place .place .ensures,
+      ← at-used .used .ensures,
+      ← at-put-used .put-used .ensures,
+      ← at-put-place .put-place .ensures,
+      ← at-put-used2 .put-used2 .ensures,
+      ← at-put-place2 .put-place2 .ensures,
+      ← at-put-live .put-live .ensures,
+    )
 
 pub free-slot-spec : {M : Type 1} → statement M
 free-slot-spec =

@@ -1,67 +1,56 @@
 -- Three stores, one after the other, are the mirror's.
 use Rattle.geometry.specs.Values.{markValue}
-use Rattle.table.specs.Layout.{slotPlace}
 use Rattle.table.proofs.Stores.{putMark-stores}
 use borrow.Author.Needs.{needs}
-use Rattle.table.proofs.slots.store.Statement.{statement}
+use Rattle.table.proofs.slots.write.Statement.{statement}
 use native.Mathlib.Omega.{arith}
 use lib.ListN.{length-set}
-use Rattle.table.proofs.slots.store.Tie as tie
+use Rattle.table.proofs.slots.write.Tie as tie
 
--- src/slots.rt:62:31
-mul-at : tie.Need-mul-at
-mul-at c = search needs
-
--- src/slots.rt:62:14
-add-at : tie.Need-add-at
-add-at c = search needs
-
--- src/slots.rt:63:5
+-- src/slots.rt:27:5
 mul-t : tie.Need-mul-t
 mul-t c = search needs
 
--- src/slots.rt:63:5
+-- src/slots.rt:27:5
 slice-write-t : tie.Need-slice-write-t
 slice-write-t c = search needs
 
--- src/slots.rt:64:7
+-- src/slots.rt:28:7
 add-t : tie.Need-add-t
 add-t c = search needs
 
--- src/slots.rt:64:5
+-- src/slots.rt:28:5
 mul-t-2 : tie.Need-mul-t-2
 mul-t-2 c = search needs
 
--- src/slots.rt:64:5
+-- src/slots.rt:28:5
 slice-write-t-2 : tie.Need-slice-write-t-2
 slice-write-t-2 c = simp length-set (omega arith)
 
--- src/slots.rt:65:7
+-- src/slots.rt:29:7
 add-t-2 : tie.Need-add-t-2
 add-t-2 c = search needs
 
--- src/slots.rt:65:5
+-- src/slots.rt:29:5
 mul-t-3 : tie.Need-mul-t-3
 mul-t-3 c = search needs
 
--- src/slots.rt:65:5
+-- src/slots.rt:29:5
 slice-write-t-3 : tie.Need-slice-write-t-3
 slice-write-t-3 c = simp length-set (omega arith)
 
--- src/slots.rt:58:1
+-- src/slots.rt:23:1
 same-length : tie.Need-same-length
 same-length c = search needs
 
--- src/slots.rt:58:1
+-- src/slots.rt:23:1
 returns : tie.Need-returns
-returns c = let a = c .args in putMark-stores (a .t .now) (slotPlace (a .s)) (markValue (a .m)) (c .pre)
+returns c = let a = c .args in putMark-stores (a .t .now) (a .at) (markValue (a .m)) (c .pre)
 
-pub store-spec : {M : Type 1} → statement M
-store-spec =
+pub write-spec : {M : Type 1} → statement M
+write-spec =
     tie.close
     (tie.spec
-    mul-at
-    add-at
     mul-t
     slice-write-t
     add-t
