@@ -2,6 +2,9 @@ use borrow.Author.Needs.{needs}
 use Rattle.geometry.proofs.Mark.new.Statement.{statement}
 use Rattle.model.specs.Refusals.{enterMark}
 use Rattle.geometry.proofs.Mark.new.Tie as tie
+use Rattle.geometry.proofs.Mark.new.Reads as reads
+use Rattle.geometry.proofs.Mark.new.Lts as lts
+use Rattle.geometry.proofs.Mark.is_outside.Reads as is-outside-reads
 
 -- src/lib.rt:65:12
 is-outside-requires : tie.Need-is-outside-requires

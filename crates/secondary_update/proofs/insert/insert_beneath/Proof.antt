@@ -1,4 +1,5 @@
--- The way down: each turn of the loop is one step of the mirror, on words of the same length; what is left to do at the end goes along.
+-- The loop keeps: as many words; the arms at the words `at` and `top` are there; the insertion that is left, from `at` on with `left` levels, and then what is
+-- to be built afresh at `top`, is the whole one. What falls: left.
 use Rattle.secondary_update.proofs.insert.insert_beneath.Statement.{statement}
 use Rattle.secondary_update.specs.Insert.{insertAfresh, insertArm, insertNode, insertRecord, insertWay, insert♯, insert♯-zero, insert♯-suc}
 use Rattle.nodes.specs.Weights.{unbalances}
