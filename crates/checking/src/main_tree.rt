@@ -16,7 +16,7 @@ use crate::slots;
 use nodes::arm::Arm;
 use nodes::primary::PrimaryArm;
 use nodes::primary::PrimaryRecord;
-use table::layout;
+use nodes::secondary::SecondaryRecord;
 use table::limits;
 use twofold_layout::levels;
 
@@ -64,7 +64,7 @@ fn auxiliary_stands(
     requires { ⌜ (name < capacity) × (first < capacity) × (last < capacity) × (slotsEnd capacity ≤ length (now t)) ⌝ }
     ensures { λ r. ⌜ r ≡ auxiliaryStands♯ capacity live (now (t .entry)) base name weight first last ⌝ }
 {
-    if t.len() < (base as usize) + layout::RECORD * (capacity as usize) {
+    if SecondaryRecord::lacks_level(t, base, capacity) {
         return false;
     }
     let a = PrimaryRecord::load_auxiliary(t, name);

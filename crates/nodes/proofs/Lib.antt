@@ -1,3 +1,4 @@
+pub mod Balance
 pub mod Stores
 pub mod Unchanged
 pub mod Frames

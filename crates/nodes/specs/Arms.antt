@@ -1,6 +1,6 @@
 -- Numbers of nodes, arms and records, of main and auxiliary trees alike (docs/LAYOUT.md, "Arms and records"). Assumes nothing.
 use Prim.Native.Nat.{ℕ, _+_, _*_, _%_}
-use mathlib.Core.Bool.{Bool}
+use mathlib.Core.Bool.{Bool, true, false}
 use mathlib.Core.List.{List, [], _∷_}
 use lib.Dec.{eqb}
 use lib.ListN.{getD}
@@ -50,6 +50,18 @@ pub record Record : Type 0 where
 abbrev pub arms : Arm → Arm → Record
 arms l r = record { left = l; right = r }
 
+-- the way of a mark at an inner node: whether it goes left, the child that it goes to, and the other one
+pub record Way : Type 0 where
+  pub left : Bool
+  pub child : Arm
+  pub sibling : Arm
+
+abbrev pub way : Bool → Arm → Arm → Way
+way left c q = record { left = left; child = c; sibling = q }
+
+unfoldable pub wayOf : Record → Bool → Way
+wayOf p left = if left then way true (p .left) (p .right) else way false (p .right) (p .left)
+
 -- an arm in words: its root's number, its weight, its cell
 abbrev pub armWords : Arm → List ℕ
 armWords a = a .node ∷ a .weight ∷ a .least ∷ a .greatest ∷ []
@@ -74,3 +86,7 @@ childAt at left = if left then at else at + armWidth
 -- the name of a node once slot s is struck: the least slot left in its right child, if that was s
 unfoldable pub renamed : ℕ → ℕ → ℕ → ℕ → ℕ
 renamed capacity name s first = if eqb name s then asSlot capacity first else name
+
+-- the least slot left of a node once a leaf that is its child is struck, where that was its left child and so the least
+unfoldable pub firstLeft : Bool → ℕ → ℕ
+firstLeft left name = if left then name else 0

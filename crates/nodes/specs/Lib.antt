@@ -2,6 +2,7 @@
 -- and `Collect` are the mirrors of a count in a tree of either kind and of the collection of its slots.
 pub mod Weights
 pub mod Arms
+pub mod Ways
 pub mod Values
 pub mod Holds
 pub mod Count

@@ -8,10 +8,14 @@ use Rattle.model.specs.Lists.{if_then_else_}
 unfoldable pub sum : ℕ → ℕ → ℕ
 sum l r = (l + r) % 4294967296
 
+-- a child of weight w has a quarter of its node's weight or more
+abbrev pub isHeavy : ℕ → ℕ → Bool
+isHeavy w sibling = leb (w + sibling) (4 * w)
+
 -- the weights of two children are balanced
 abbrev pub balanced : ℕ → ℕ → Bool
 balanced l r = leb (l + r) (4 * l) && leb (l + r) (4 * r)
 
--- where a node is to be mended: it is not balanced with one mark more on its left, or on its right
-unfoldable pub unbalances : Bool → Bool → ℕ → ℕ → Bool
-unbalances mends left l r = if mends then (if left then not (balanced (sum l 1) r) else not (balanced l (sum r 1))) else false
+-- where a balanced node is to be mended: it is not balanced with one mark more in the child of weight w, whose sibling can only become too light
+unfoldable pub unbalances : Bool → ℕ → ℕ → Bool
+unbalances mends w sibling = if mends then not (isHeavy sibling (sum w 1)) else false

@@ -4,7 +4,8 @@ ghost use mathlib.Core.Path.{_≡_};
 ghost use Prim.Native.Nat.{_+_, _<_, _≤_, _^_};
 ghost use lib.ListN.{length};
 ghost use Rattle.table.specs.Layout.{armWidth, recordWidth};
-ghost use Rattle.nodes.specs.Arms.{leafNumber, innerNumber, noArm, leafArm, overArm, grownArm, armAt, putArm, recordAt, putRecord, childAt, renamed};
+ghost use Rattle.nodes.specs.Arms.{leafNumber, innerNumber, noArm, leafArm, overArm, grownArm, armAt, putArm, recordAt, putRecord, childAt};
+ghost use Rattle.nodes.specs.Arms.{renamed, firstLeft};
 ghost use Rattle.nodes.specs.Values.{armValue, recordValue};
 use crate::weights;
 use table::layout;
@@ -23,6 +24,13 @@ pub struct Arm {
 pub struct Record {
     pub left: Arm,
     pub right: Arm,
+}
+
+// The fork of a mark's way at an inner node: whether it goes left, the weight of the child that it goes to, and that of the other one.
+pub struct Fork {
+    pub left: bool,
+    pub child: u32,
+    pub sibling: u32,
 }
 
 // A node's number: 2 s for the leaf of slot s, 2 s + 1 for the inner node named s.
@@ -48,6 +56,13 @@ pub fn renamed(capacity: u32, name: u32, s: u32, first: u32) -> u32
         return runs::as_slot(capacity, first);
     }
     name
+}
+
+// The least slot that is left of a node once a leaf that is its child is struck, where that was its left child and so the least: the node's name. Else 0.
+pub fn first_left(left: bool, name: u32) -> u32
+    ensures { λ r. ⌜ r ≡ firstLeft left name ⌝ }
+{
+    if left { name } else { 0 }
 }
 
 impl Arm {

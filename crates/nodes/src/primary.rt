@@ -5,17 +5,23 @@ ghost use mathlib.Core.Bool.{true};
 ghost use Prim.Native.Nat.{_+_, _/_, _%_, _<_, _≤_, _^_};
 ghost use lib.Dec.{eqb};
 ghost use lib.ListN.{length};
+ghost use Rattle.model.specs.Sheet.{alongX};
+ghost use Rattle.geometry.specs.Values.{markValue};
 ghost use Rattle.table.specs.After.{after};
-ghost use Rattle.table.specs.Layout.{armWidth, recordWidth, mainPlace, auxiliaryPlace, runsEnd};
+ghost use Rattle.table.specs.Layout.{markWidth, armWidth, recordWidth, slotPlace, mainPlace, auxiliaryPlace, runsEnd};
 ghost use Rattle.nodes.specs.Arms.{leafNumber, innerNumber, noArm, leafArm, overArm, grownArm, armAt, putArm, recordAt, putRecord, childAt};
 ghost use Rattle.nodes.specs.Collect.{gather♯};
-ghost use Rattle.nodes.specs.Values.{armValue, primaryArm, primaryRecord, secondaryArm};
+ghost use Rattle.nodes.specs.Ways.{wayAt};
+ghost use Rattle.nodes.specs.Values.{armValue, primaryArm, primaryRecord, primaryWay, secondaryArm};
 use crate::arm;
 use crate::arm::Arm;
+use crate::arm::Fork;
 use crate::arm::Record;
 use crate::collect;
 use crate::secondary::SecondaryArm;
+use geometry::Mark;
 use table::layout;
+use table::slots;
 
 // A node's number: 2 s for the leaf of slot s, 2 s + 1 for the inner node named s.
 pub struct Primary(pub u32);
@@ -32,6 +38,13 @@ pub struct PrimaryArm {
 pub struct PrimaryRecord {
     pub left: PrimaryArm,
     pub right: PrimaryArm,
+}
+
+// The way of a mark at an inner node: whether it goes left, the child that it goes to, and the other one.
+pub struct PrimaryWay {
+    pub left: bool,
+    pub child: PrimaryArm,
+    pub sibling: PrimaryArm,
 }
 
 impl Primary {
@@ -173,6 +186,45 @@ impl PrimaryRecord {
             l.bare(),
             r.bare(),
         );
+    }
+
+    // The way of the mark m at the inner node of that name, whose words are there.
+    pub fn way(t: &[u32], name: u32, m: Mark) -> PrimaryWay
+        requires { ⌜ (slotPlace name + markWidth ≤ length (now t)) × (mainPlace name + recordWidth ≤ length (now t)) ⌝ }
+        ensures { λ r. ⌜ primaryWay r ≡ wayAt alongX mainPlace (markValue m) name (now (t .entry)) ⌝ }
+    {
+        let p = PrimaryRecord::load(t, name);
+        let l = p.left;
+        let r = p.right;
+        if m.below_x(slots::load(t, name)) {
+            return PrimaryWay {
+                left: true,
+                child: l,
+                sibling: r,
+            };
+        }
+        PrimaryWay {
+            left: false,
+            child: r,
+            sibling: l,
+        }
+    }
+
+    // The fork of that way.
+    pub fn fork(t: &[u32], name: u32, m: Mark) -> Fork
+        requires { ⌜ (slotPlace name + markWidth ≤ length (now t)) × (mainPlace name + recordWidth ≤ length (now t)) ⌝ }
+        ensures left { λ r. ⌜ r .left ≡ wayAt alongX mainPlace (markValue m) name (now (t .entry)) .left ⌝ }
+        ensures child { λ r. ⌜ r .child ≡ wayAt alongX mainPlace (markValue m) name (now (t .entry)) .child .weight ⌝ }
+        ensures sibling { λ r. ⌜ r .sibling ≡ wayAt alongX mainPlace (markValue m) name (now (t .entry)) .sibling .weight ⌝ }
+    {
+        let v = PrimaryRecord::way(t, name, m);
+        let child = v.child;
+        let sibling = v.sibling;
+        Fork {
+            left: v.left,
+            child: child.weight,
+            sibling: sibling.weight,
+        }
     }
 
     // Where its left, or its right, arm stands.

@@ -1,20 +1,26 @@
 // Nodes of auxiliary trees (000's secondary nodes): their numbers, arms and records. What is done with an arm or a record is `arm`'s; here
 // it has its kind.
 ghost use mathlib.Core.Path.{_≡_};
-ghost use mathlib.Core.Bool.{true};
+ghost use mathlib.Core.Bool.{true, false};
 ghost use Prim.Native.Nat.{_+_, _/_, _%_, _<_, _≤_, _^_};
-ghost use lib.Dec.{eqb};
+ghost use lib.Dec.{ltb, eqb};
 ghost use lib.ListN.{length};
+ghost use Rattle.model.specs.Sheet.{alongY};
+ghost use Rattle.geometry.specs.Values.{markValue};
 ghost use Rattle.table.specs.After.{after};
-ghost use Rattle.table.specs.Layout.{armWidth, recordWidth, recordPlace, runsEnd, levelEnd};
+ghost use Rattle.table.specs.Layout.{markWidth, armWidth, recordWidth, slotPlace, recordPlace, runsEnd, levelEnd};
 ghost use Rattle.nodes.specs.Arms.{leafNumber, innerNumber, noArm, leafArm, overArm, grownArm, armAt, putArm, recordAt, putRecord, childAt};
 ghost use Rattle.nodes.specs.Collect.{gather♯};
-ghost use Rattle.nodes.specs.Values.{armValue, secondaryArm, secondaryRecord};
+ghost use Rattle.nodes.specs.Ways.{wayAt};
+ghost use Rattle.nodes.specs.Values.{armValue, secondaryArm, secondaryRecord, secondaryWay};
 use crate::arm;
 use crate::arm::Arm;
+use crate::arm::Fork;
 use crate::arm::Record;
 use crate::collect;
+use geometry::Mark;
 use table::layout;
+use table::slots;
 
 // A node's number: 2 s for the leaf of slot s, 2 s + 1 for the inner node named s.
 pub struct Secondary(pub u32);
@@ -31,6 +37,13 @@ pub struct SecondaryArm {
 pub struct SecondaryRecord {
     pub left: SecondaryArm,
     pub right: SecondaryArm,
+}
+
+// The way of a mark at an inner node: whether it goes left, the child that it goes to, and the other one.
+pub struct SecondaryWay {
+    pub left: bool,
+    pub child: SecondaryArm,
+    pub sibling: SecondaryArm,
 }
 
 impl Secondary {
@@ -156,6 +169,14 @@ impl SecondaryArm {
 }
 
 impl SecondaryRecord {
+    // Whether the level whose records begin at base is not all there.
+    pub fn lacks_level(t: &[u32], base: u32, capacity: u32) -> bool
+        ensures is { λ r. ⌜ r ≡ ltb (length (now (t .entry))) (levelEnd base capacity) ⌝ }
+        ensures there { λ r. ⌜ (r ≡ false → levelEnd base capacity ≤ length (now (t .entry))) ⌝ }
+    {
+        t.len() < (base as usize) + layout::RECORD * (capacity as usize)
+    }
+
     // The record of the inner node of that name, in the level whose records begin at base, which is there.
     pub fn load(t: &[u32], base: u32, name: u32) -> SecondaryRecord
         requires { ⌜ recordPlace base name + recordWidth ≤ length (now t) ⌝ }
@@ -177,6 +198,45 @@ impl SecondaryRecord {
             l.bare(),
             r.bare(),
         );
+    }
+
+    // The way of the mark m at the inner node of that name, whose words are there.
+    pub fn way(t: &[u32], base: u32, name: u32, m: Mark) -> SecondaryWay
+        requires { ⌜ (slotPlace name + markWidth ≤ length (now t)) × (recordPlace base name + recordWidth ≤ length (now t)) ⌝ }
+        ensures { λ r. ⌜ secondaryWay r ≡ wayAt alongY (recordPlace base) (markValue m) name (now (t .entry)) ⌝ }
+    {
+        let p = SecondaryRecord::load(t, base, name);
+        let l = p.left;
+        let r = p.right;
+        if m.below_y(slots::load(t, name)) {
+            return SecondaryWay {
+                left: true,
+                child: l,
+                sibling: r,
+            };
+        }
+        SecondaryWay {
+            left: false,
+            child: r,
+            sibling: l,
+        }
+    }
+
+    // The fork of that way.
+    pub fn fork(t: &[u32], base: u32, name: u32, m: Mark) -> Fork
+        requires { ⌜ (slotPlace name + markWidth ≤ length (now t)) × (recordPlace base name + recordWidth ≤ length (now t)) ⌝ }
+        ensures left { λ r. ⌜ r .left ≡ wayAt alongY (recordPlace base) (markValue m) name (now (t .entry)) .left ⌝ }
+        ensures child { λ r. ⌜ r .child ≡ wayAt alongY (recordPlace base) (markValue m) name (now (t .entry)) .child .weight ⌝ }
+        ensures sibling { λ r. ⌜ r .sibling ≡ wayAt alongY (recordPlace base) (markValue m) name (now (t .entry)) .sibling .weight ⌝ }
+    {
+        let v = SecondaryRecord::way(t, base, name, m);
+        let child = v.child;
+        let sibling = v.sibling;
+        Fork {
+            left: v.left,
+            child: child.weight,
+            sibling: sibling.weight,
+        }
     }
 
     // Where its left, or its right, arm stands.

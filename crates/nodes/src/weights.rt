@@ -3,7 +3,7 @@ ghost use mathlib.Core.Path.{_≡_};
 ghost use mathlib.Core.Bool.{not};
 ghost use Prim.Native.Nat.{_+_, _-_};
 ghost use lib.Dec.{eqb};
-ghost use Rattle.nodes.specs.Weights.{sum, balanced, unbalances};
+ghost use Rattle.nodes.specs.Weights.{sum, isHeavy, balanced, unbalances};
 
 // The weight of a node over children of these weights.
 pub fn sum(l: u32, r: u32) -> u32
@@ -29,6 +29,13 @@ pub fn disagree(l: u32, r: u32, w: u32) -> bool
     true
 }
 
+// Whether a child has a quarter of its node's weight or more, where the other child has `sibling`. A node is balanced where both of its children do.
+pub fn is_heavy(w: u32, sibling: u32) -> bool
+    ensures { λ a. ⌜ a ≡ isHeavy w sibling ⌝ }
+{
+    (w as u64) + (sibling as u64) <= 4 * (w as u64)
+}
+
 // Whether a node over children of these weights is balanced.
 pub fn balanced(l: u32, r: u32) -> bool
     ensures { λ a. ⌜ a ≡ balanced l r ⌝ }
@@ -40,15 +47,19 @@ pub fn balanced(l: u32, r: u32) -> bool
     false
 }
 
-// Whether a node over these weights is not balanced with one mark more on its left or its right, where it is to be mended.
-pub fn unbalances(mends: bool, left: bool, l: u32, r: u32) -> bool
-    ensures { λ a. ⌜ a ≡ unbalances mends left l r ⌝ }
+// Whether a balanced node is balanced with one mark less in the child of weight w: that child can only become too light.
+pub fn stays_balanced(w: u32, sibling: u32) -> bool
+    ensures { λ a. ⌜ a ≡ isHeavy (w - 1) sibling ⌝ }
+{
+    is_heavy(fewer(w), sibling)
+}
+
+// Whether a balanced node is not balanced with one mark more in the child of weight w, where it is to be mended: its sibling can only become too light.
+pub fn unbalances(mends: bool, w: u32, sibling: u32) -> bool
+    ensures { λ a. ⌜ a ≡ unbalances mends w sibling ⌝ }
 {
     if mends {
-        if left {
-            return !balanced(sum(l, 1), r);
-        }
-        return !balanced(l, sum(r, 1));
+        return !is_heavy(sibling, sum(w, 1));
     }
     false
 }

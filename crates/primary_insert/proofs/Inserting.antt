@@ -22,8 +22,10 @@ use Rattle.model.proofs.Rebalance.{rebalance-left, rebalance-right, rebuilt-lef
 use Rattle.table.specs.Layout.{mainPlace, auxiliaryPlace, rootPlace, levelPlace, recordPlace}
 use Rattle.table.specs.Limits.{deepest, damaged}
 use Rattle.table.specs.Marks.{slotMark}
-use Rattle.nodes.specs.Arms.{Arm, arms, grownArm, armAt, putArm, childAt}
+use Rattle.nodes.specs.Arms.{Arm, Record, arms, Way, wayOf, grownArm, armAt, putArm, childAt}
+use Rattle.nodes.specs.Ways.{wayAt}
 use Rattle.nodes.specs.Weights.{sum, unbalances}
+use Rattle.nodes.proofs.Balance.{balanced-swap, balanced-more, balanced-heavy, way-weight}
 use Rattle.nodes.specs.Holds.{armOf, timesIn, times}
 use Rattle.table.specs.After.{After}
 use Rattle.nodes.proofs.Frames.{putArm-same}
@@ -40,8 +42,8 @@ use Rattle.twofold_layout.proofs.Rules.{rules-left, rules-right}
 use Rattle.secondary_update.specs.Insert.{auxiliaryInsert♯}
 use Rattle.secondary_update.proofs.Inserting.{insert-times, insert-weight, insert-least, insert-names}
 use Rattle.secondary_update.proofs.Inserting.{rebuilt-weight, sum-one, grown-arm, leaf-held, grown-within}
-use Rattle.primary_insert.specs.Insert.{mainLeaf♯, mainAfresh♯, MainInsertion, insertOn, mainWay, insertBeneath♯, insertRoot, mainInsert♯}
-use Rattle.primary_insert.specs.Insert.{mainInsertRecord, mainInsertArm, mainInsertNode}
+use Rattle.primary_insert.specs.Insert.{mainLeaf♯, mainAfresh♯, grow♯, MainInsertion, insertOn, insertBeneath♯, insertRoot, mainInsert♯}
+use Rattle.primary_insert.specs.Insert.{mainInsertChild, mainInsertWay, mainInsertArm, mainInsertNode}
 use Rattle.twofold_layout.proofs.Beneath.{beneath-record, beneath-two}
 use Rattle.primary_insert.proofs.Way.{arm-kept, AuxiliaryGrown, auxiliary-grown, two-way-left, two-way-right}
 use Rattle.primary_insert.proofs.Ready.{TwoReady, X, R, grow, mend, Grown, byX, ready-room, ready-new, ready-within, ready-once}
@@ -207,23 +209,27 @@ module _ (f : ℕ → Mark) (C s : ℕ) (small : C ≤ 65536) (inC : s < C) wher
 
   -- THE MIRROR AT A NODE
   module _ {d at : ℕ} {xs : List ℕ} (i : SlotAuxiliary) (l r : SlotMain) (k : TwoReady f C s d at xs (node i l r)) (rec : MainInsertion) where
-    abbrev Way : Bool → After ℕ
-    Way left = mainWay rec C (f s) s (levelPlace C d) (least r) left (arms (armOf alongX f l) (armOf alongX f r)) at (armOf alongX f (node i l r)) xs
+    abbrev Onward : Bool → After ℕ
+    Onward left =
+        mainInsertChild rec C (f s) s (levelPlace C d) (least r) (wayOf (arms (armOf alongX f l) (armOf alongX f r)) left) at (armOf alongX f (node i l r)) xs
 
-    insertBeneath-node : mainInsertNode rec C (f s) s (levelPlace C d) at xs ≡ Way (belowX (f s) (f (least r)))
-    unfolding mainInsertNode mainInsertArm mainInsertRecord
+    insertBeneath-node : mainInsertNode rec C (f s) s (levelPlace C d) at xs ≡ Onward (belowX (f s) (f (least r)))
+    unfolding mainInsertNode mainInsertArm mainInsertWay wayAt
     insertBeneath-node =
         let odd : ((2 * least r + 1) % 2 ≡ 0 → ⊥) = omega arith in
         let half : (2 * least r + 1) / 2 ≡ least r = omega arith in
         let member : 0 < times (least r) (node i l r) = omega (arith, times-node (least r) i l r, times-least r) in
+        let p : Record = arms (armOf alongX f l) (armOf alongX f r) in
+        let left : Bool = belowX (f s) (f (least r)) in
+        let v : Way = wayOf p left in
         rw (
           k .is,
           half,
           lt-leb C (least r) (held-least (two-right (k .held) .main)),
           ne-eqb ((2 * least r + 1) % 2) 0 odd,
           k .held .main .records .0,
-          eq-eqb (weight l + weight r) (weight l + weight r) refl,
           k .held .main .marked (least r) member,
+          eq-eqb (v .child .weight + v .sibling .weight) (weight l + weight r) (way-weight p left),
         )
 
     next-left : sum (weight l) 1 ≡ weight (grow f s l)
@@ -232,31 +238,38 @@ module _ (f : ℕ → Mark) (C s : ℕ) (small : C ≤ 65536) (inC : s < C) wher
     next-right : sum (weight r) 1 ≡ weight (grow f s r)
     next-right = sum-one (weight r) (omega (arith, held-weight (k .held .main))) ∙ sym (insert-weight (X f) (R f) s r)
 
-    afresh-left : evenly (grow f s l) r ≡ false → Way true ≡ mainAfresh♯ C (f s) s (levelPlace C d) at xs
-    unfolding mainWay unbalances
-    afresh-left u = rw (next-left, u)
+    afresh-left : evenly (grow f s l) r ≡ false → Onward true ≡ mainAfresh♯ C (f s) s (levelPlace C d) at xs
+    unfolding mainInsertChild wayOf unbalances
+    afresh-left u =
+        rw (next-left, ← balanced-more (weight l) (weight r) (weight (grow f s l)) (k .rules .balanced .0) (insert-weight (X f) (R f) s l), u)
 
-    afresh-right : evenly l (grow f s r) ≡ false → Way false ≡ mainAfresh♯ C (f s) s (levelPlace C d) at xs
-    unfolding mainWay unbalances
-    afresh-right u = rw (next-right, u)
+    afresh-right : evenly l (grow f s r) ≡ false → Onward false ≡ mainAfresh♯ C (f s) s (levelPlace C d) at xs
+    unfolding mainInsertChild wayOf unbalances
+    afresh-right u =
+        rw (
+          next-right,
+          ← balanced-more (weight r) (weight l) (weight (grow f s r)) (omega (arith, k .rules .balanced .1)) (insert-weight (X f) (R f) s r),
+          balanced-swap (weight (grow f s r)) (weight l),
+          u,
+        )
 
     module _ (low : d < D C) where
-      way-left : evenly (grow f s l) r ≡ true → Way true ≡ rec (levelPlace C (suc d)) (mainPlace (least r)) (handed i l r k low .words)
-      unfolding mainWay unbalances childAt insertOn
+      way-left : evenly (grow f s l) r ≡ true → Onward true ≡ rec (levelPlace C (suc d)) (mainPlace (least r)) (handed i l r k low .words)
+      unfolding mainInsertChild wayOf unbalances childAt grow♯ insertOn
       way-left t =
           rw (
             next-left,
-            t,
+            balanced-heavy (weight (grow f s l)) (weight r) t,
             ne-eqb (handed i l r k low .out) damaged (handed-grown i l r k low .sound),
             deeper-level C d small (omega (arith, most-levels C small)),
           )
 
-      way-right : evenly l (grow f s r) ≡ true → Way false ≡ rec (levelPlace C (suc d)) (mainPlace (least r) + 4) (handed i l r k low .words)
-      unfolding mainWay unbalances childAt insertOn
+      way-right : evenly l (grow f s r) ≡ true → Onward false ≡ rec (levelPlace C (suc d)) (mainPlace (least r) + 4) (handed i l r k low .words)
+      unfolding mainInsertChild wayOf unbalances childAt grow♯ insertOn
       way-right t =
           rw (
             next-right,
-            t,
+            balanced-heavy (weight (grow f s r)) (weight l) (balanced-swap (weight (grow f s r)) (weight l) ∙ t),
             ne-eqb (handed i l r k low .out) damaged (handed-grown i l r k low .sound),
             deeper-level C d small (omega (arith, most-levels C small)),
           )
@@ -277,7 +290,7 @@ module _ (f : ℕ → Mark) (C s : ℕ) (small : C ≤ 65536) (inC : s < C) wher
     left-way : belowX (f s) (f (least r)) ≡ true
         → ((low : d < D C) → suc d + depth (mend f (grow f s l)) ≤ D C → Grown f C (suc d) (mainPlace (least r)) (handed i l r k low .words)
         (rec (levelPlace C (suc d)) (mainPlace (least r)) (handed i l r k low .words)) (grow f s l))
-        → Grown f C d at xs (Way i l r k rec true) (grow f s (node i l r))
+        → Grown f C d at xs (Onward i l r k rec true) (grow f s (node i l r))
     left-way e next =
         let g : grow f s (node i l r) ≡ node (R f .insert s i) (grow f s l) r = rw e in
         by-cases (evenly (grow f s l) r)
@@ -293,7 +306,7 @@ module _ (f : ℕ → Mark) (C s : ℕ) (small : C ≤ 65536) (inC : s < C) wher
     right-way : belowX (f s) (f (least r)) ≡ false
         → ((low : d < D C) → suc d + depth (mend f (grow f s r)) ≤ D C → Grown f C (suc d) (mainPlace (least r) + 4) (handed i l r k low .words)
         (rec (levelPlace C (suc d)) (mainPlace (least r) + 4) (handed i l r k low .words)) (grow f s r))
-        → Grown f C d at xs (Way i l r k rec false) (grow f s (node i l r))
+        → Grown f C d at xs (Onward i l r k rec false) (grow f s (node i l r))
     right-way e next =
         let g : grow f s (node i l r) ≡ node (R f .insert s i) l (grow f s r) = rw e in
         by-cases (evenly l (grow f s r))
@@ -321,10 +334,10 @@ module _ (f : ℕ → Mark) (C s : ℕ) (small : C ≤ 65536) (inC : s < C) wher
       let rec : MainInsertion = insertBeneath♯ fuel C (f s) s in
       rw (insertBeneath-node i l r k rec)
       (by-cases (belowX (f s) (f (least r)))
-      (λ e. subst (λ b. Grown f C d at xs (Way i l r k rec b) (grow f s (node i l r))) (sym e)
+      (λ e. subst (λ b. Grown f C d at xs (Onward i l r k rec b) (grow f s (node i l r))) (sym e)
       (left-way i l r k rec shallow fits e (λ low h.
       insertBeneath-holds fuel l (suc d) (mainPlace (least r)) (handed i l r k low .words) (left-ready i l r k low) h (omega arith) (omega arith))))
-      (λ e. subst (λ b. Grown f C d at xs (Way i l r k rec b) (grow f s (node i l r))) (sym e)
+      (λ e. subst (λ b. Grown f C d at xs (Onward i l r k rec b) (grow f s (node i l r))) (sym e)
       (right-way i l r k rec shallow fits e (λ low h.
       insertBeneath-holds fuel r (suc d) (mainPlace (least r) + 4) (handed i l r k low .words) (right-ready i l r k low e) h (omega arith) (omega arith)))))
 

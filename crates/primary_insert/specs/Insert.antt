@@ -11,7 +11,8 @@ use Rattle.model.specs.Sheet.{Mark, belowX, alongX}
 use Rattle.table.specs.Layout.{armWidth, runsEnd, mainPlace, auxiliaryPlace, rootPlace}
 use Rattle.table.specs.Limits.{deepest, damaged, noSlot}
 use Rattle.table.specs.Marks.{slotMark}
-use Rattle.nodes.specs.Arms.{Arm, Record, leafArm, grownArm, armAt, putArm, recordAt, childAt}
+use Rattle.nodes.specs.Arms.{Arm, Way, leafArm, grownArm, armAt, putArm, childAt}
+use Rattle.nodes.specs.Ways.{wayAt}
 use Rattle.table.specs.After.{After, after}
 use Rattle.twofold_layout.specs.Levels.{topLevel, deeper}
 use Rattle.secondary_update.specs.Insert.{split♯, insert♯, auxiliaryInsert♯}
@@ -51,27 +52,31 @@ mainAfresh♯ capacity m s base at xs = afreshOnce capacity base at (insert♯ a
 abbrev pub MainInsertion : Type 0
 MainInsertion = ℕ → ℕ → List ℕ → After ℕ
 
+-- the mark goes into the arm that leads to a node on its way, and into the node's auxiliary tree
+unfoldable pub grow♯ : ℕ → Mark → ℕ → ℕ → ℕ → ℕ → Arm → List ℕ → After ℕ
+grow♯ capacity m s base name at a xs = auxiliaryInsert♯ base capacity m s name (putArm xs at (grownArm a (m .x)))
+
 -- on to the child, where the auxiliary tree was not damaged
 unfoldable pub insertOn : MainInsertion → ℕ → ℕ → After ℕ → After ℕ
 insertOn rec base at p = if eqb (p .out) damaged then after damaged (p .words) else rec base at (p .words)
 
-unfoldable pub mainWay : MainInsertion → ℕ → Mark → ℕ → ℕ → ℕ → Bool → Record → ℕ → Arm → List ℕ → After ℕ
-mainWay rec capacity m s base name left p at a xs =
-    if unbalances true left (p .left .weight) (p .right .weight) then mainAfresh♯ capacity m s base at xs
-    else insertOn rec (deeper base capacity) (childAt (mainPlace name) left)
-    (auxiliaryInsert♯ base capacity m s name (putArm xs at (grownArm a (m .x))))
+unfoldable pub mainInsertChild : MainInsertion → ℕ → Mark → ℕ → ℕ → ℕ → Way → ℕ → Arm → List ℕ → After ℕ
+mainInsertChild rec capacity m s base name v at a xs =
+    if unbalances true (v .child .weight) (v .sibling .weight) then mainAfresh♯ capacity m s base at xs
+    else insertOn rec (deeper base capacity) (childAt (mainPlace name) (v .left)) (grow♯ capacity m s base name at a xs)
 
-unfoldable pub mainInsertRecord : MainInsertion → ℕ → Mark → ℕ → ℕ → ℕ → Record → ℕ → Arm → List ℕ → After ℕ
-mainInsertRecord rec capacity m s base name p at a xs =
-    if not (eqb (p .left .weight + p .right .weight) (a .weight)) then after damaged xs
-    else mainWay rec capacity m s base name (belowX m (slotMark xs name)) p at a xs
+-- children whose weights are not the node's are damage
+unfoldable pub mainInsertWay : MainInsertion → ℕ → Mark → ℕ → ℕ → ℕ → Way → ℕ → Arm → List ℕ → After ℕ
+mainInsertWay rec capacity m s base name v at a xs =
+    if not (eqb (v .child .weight + v .sibling .weight) (a .weight)) then after damaged xs
+    else mainInsertChild rec capacity m s base name v at a xs
 
 -- a node of no slot is damage
 unfoldable pub mainInsertArm : MainInsertion → ℕ → Mark → ℕ → ℕ → ℕ → Arm → List ℕ → After ℕ
 mainInsertArm rec capacity m s base at a xs =
     if leb capacity (a .node / 2) then after damaged xs
     else (if eqb (a .node % 2) 0 then mainLeaf♯ capacity m s base at a xs
-    else mainInsertRecord rec capacity m s base (a .node / 2) (recordAt xs (mainPlace (a .node / 2))) at a xs)
+    else mainInsertWay rec capacity m s base (a .node / 2) (wayAt alongX mainPlace m (a .node / 2) xs) at a xs)
 
 unfoldable pub mainInsertNode : MainInsertion → ℕ → Mark → ℕ → MainInsertion
 mainInsertNode rec capacity m s base at xs = mainInsertArm rec capacity m s base at (armAt xs at) xs

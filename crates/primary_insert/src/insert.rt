@@ -6,7 +6,7 @@ ghost use Rattle.geometry.specs.Values.{markValue};
 ghost use Rattle.table.specs.After.{after};
 ghost use Rattle.table.specs.Layout.{runsEnd};
 ghost use Rattle.nodes.specs.Values.{primaryArm};
-ghost use Rattle.primary_insert.specs.Insert.{Stands, mainLeaf♯, mainAfresh♯, insertBeneath♯, mainInsert♯};
+ghost use Rattle.primary_insert.specs.Insert.{Stands, mainLeaf♯, grow♯, mainAfresh♯, insertBeneath♯, mainInsert♯};
 use crate::main_tree;
 use geometry::Mark;
 use nodes::primary::PrimaryArm;
@@ -36,6 +36,24 @@ fn insert_at_leaf(
     let k = node.slot();
     let other = slots::load(t, k);
     PrimaryRecord::store_auxiliary(t, name, SecondaryArm::leaf(k, other.y));
+    secondary_update::insert::insert(t, base, capacity, name, m, s)
+}
+
+// Puts the mark m of slot s into a node on its way: into the arm a that leads to the node, at the word `at`, and into the node's auxiliary tree.
+fn grow(
+    t: &mut [u32],
+    base: u32,
+    capacity: u32,
+    at: usize,
+    a: PrimaryArm,
+    name: u32,
+    m: Mark,
+    s: u32,
+) -> u32
+    requires { ⌜ (name < capacity) × Stands capacity s at (now t) ⌝ }
+    ensures { λ r. ⌜ after r (now (t .exit)) ≡ grow♯ capacity (markValue m) s base name at (primaryArm a) (now (t .entry)) ⌝ }
+{
+    PrimaryArm::store(t, at, a.grown(m.x));
     secondary_update::insert::insert(t, base, capacity, name, m, s)
 }
 
@@ -93,24 +111,19 @@ fn insert_beneath(
         if node.is_leaf() {
             return insert_at_leaf(t, base, capacity, at, a, m, s);
         }
-        let p = PrimaryRecord::load(t, name);
-        let l = p.left;
-        let r = p.right;
-        if weights::disagree(l.weight, r.weight, a.weight) {
+        let fork = PrimaryRecord::fork(t, name, m);
+        if weights::disagree(fork.child, fork.sibling, a.weight) {
             return limits::DAMAGED;
         }
-        let below = m.below_x(slots::load(t, name));
-        let next = PrimaryRecord::child(name, below);
-        if weights::unbalances(true, below, l.weight, r.weight) {
+        if weights::unbalances(true, fork.child, fork.sibling) {
             return insert_afresh(t, base, capacity, at, m, s);
         }
-        PrimaryArm::store(t, at, a.grown(m.x));
-        let done = secondary_update::insert::insert(t, base, capacity, name, m, s);
+        let done = grow(t, base, capacity, at, a, name, m, s);
         if done == limits::DAMAGED {
             return limits::DAMAGED;
         }
         base = levels::deeper(base, capacity);
-        at = next;
+        at = PrimaryRecord::child(name, fork.left);
     }
     limits::DAMAGED
 }

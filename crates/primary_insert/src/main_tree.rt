@@ -56,15 +56,12 @@ pub fn put(t: &mut [u32], capacity: u32, start: usize, m: Mark, s: u32) -> u32
             split(t, capacity, at, a, m, s);
             return 0;
         }
-        let p = PrimaryRecord::load(t, name);
-        let l = p.left;
-        let r = p.right;
-        if weights::disagree(l.weight, r.weight, a.weight) {
+        let fork = PrimaryRecord::fork(t, name, m);
+        if weights::disagree(fork.child, fork.sibling, a.weight) {
             return limits::DAMAGED;
         }
-        let below = m.below_x(slots::load(t, name));
         PrimaryArm::store(t, at, a.grown(m.x));
-        at = PrimaryRecord::child(name, below);
+        at = PrimaryRecord::child(name, fork.left);
     }
     limits::DAMAGED
 }

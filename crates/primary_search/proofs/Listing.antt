@@ -32,7 +32,7 @@ use Rattle.table.proofs.Tallies.{visited-pack, pack-visits, pack-found}
 use Rattle.twofold_layout.specs.Rules.{SlotAuxiliary, SlotMain, slotAuxiliary, slotMain, AuxiliaryOf, AuxiliariesOf, ByRules}
 use Rattle.twofold_layout.specs.TwoFold.{TwoFold}
 use Rattle.secondary_search.proofs.Listing.{written, written-append, met, met-listed, carriesBag-carries, list-holds}
-use Rattle.primary_search.specs.List.{listMark, listLeaf♯, listOver♯, listChildren, listInner, listArm, listBeneath♯, listRoot, mainList♯}
+use Rattle.primary_search.specs.List.{listMark, listLeaf♯, listOver♯, listChildren, listInner, stops, listArm, listBeneath♯, listRoot, mainList♯}
 use Rattle.twofold_layout.proofs.Over.{deeper-level, top-level}
 use Rattle.primary_search.proofs.Ready.{ReadyNode, Ready, inside-settled, ready}
 
@@ -98,7 +98,7 @@ module _ (f : ℕ → Mark) (b : Box) where
 
     list-leaf : (n base s : ℕ) → s < C → slotMark xs s ≡ f s
         → Writes (listBeneath♯ (suc n) xs C b most base (armOf {I = SlotAuxiliary} alongX f (leaf s))) (mainMet (leaf s)) 1
-    unfolding listBeneath♯ listArm
+    unfolding listBeneath♯ listArm stops
     list-leaf n base s below e k v ys hv hk hy =
         let even : (2 * s) % 2 ≡ 0 = omega arith in
         let half : (2 * s) / 2 ≡ s = omega arith in
@@ -112,7 +112,7 @@ module _ (f : ℕ → Mark) (b : Box) where
           → listInner (listBeneath♯ n xs C b most) xs C b most (levelPlace C d) (armOf alongX f (node i l r)) (least r) (pack k (v + 1)) ys
           ≡ after (pack (k + length m) (v + (w + 1))) (written f k m ys))
           → Writes (listBeneath♯ (suc n) xs C b most (levelPlace C d) (armOf alongX f (node i l r))) m (w + 1)
-      unfolding listBeneath♯ listArm
+      unfolding listBeneath♯ listArm stops
       list-node w m inner k v ys hv hk hy =
           let odd : ((2 * least r + 1) % 2 ≡ 0 → ⊥) = omega arith in
           let half : (2 * least r + 1) / 2 ≡ least r = omega arith in

@@ -3,6 +3,7 @@ use Prim.Native.Nat.{ℕ, zero, suc, _-_, _/_, _%_}
 use mathlib.Core.Path.{_≡_, refl}
 use mathlib.Core.List.{List}
 use native.Mathlib.Omega.{arith}
+use mathlib.Core.Bool.{Bool, true}
 use lib.Dec.{leb, ltb, eqb}
 use lib.ListN.{length, getD}
 use Rattle.model.specs.Lists.{if_then_else_}
@@ -43,12 +44,15 @@ listInner rec xs capacity b most base a s here ys =
     else (if cellClear alongX b (a .least) (a .greatest) then after here ys
     else listChildren rec (recordAt xs (mainPlace s)) (deeper base capacity) here ys)
 
+-- where a listing stops: its visits are used up, or the node is of no slot
+unfoldable pub stops : ℕ → ℕ → ℕ → ℕ → Bool
+stops capacity s most tally = if leb most (tally % 4294967296) then true else leb capacity s
+
 unfoldable pub listArm : MainListing → List ℕ → ℕ → Box → ℕ → MainListing
 listArm rec xs capacity b most base a tally ys =
-    if leb most (tally % 4294967296) then after lost ys
-    else (if leb capacity (a .node / 2) then after lost ys
+    if stops capacity (a .node / 2) most tally then after lost ys
     else (if eqb (a .node % 2) 0 then listLeaf♯ xs b (a .node / 2) tally ys
-    else listInner rec xs capacity b most base a (a .node / 2) (visited tally 0) ys))
+    else listInner rec xs capacity b most base a (a .node / 2) (visited tally 0) ys)
 
 unfoldable pub listBeneath♯ : ℕ → List ℕ → ℕ → Box → ℕ → MainListing
 listBeneath♯ zero xs capacity b most base a tally ys = after lost ys

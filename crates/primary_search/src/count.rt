@@ -13,6 +13,7 @@ use geometry::Box;
 use nodes::primary::Primary;
 use nodes::primary::PrimaryArm;
 use nodes::primary::PrimaryRecord;
+use nodes::secondary::SecondaryRecord;
 use table::layout;
 use table::limits;
 use table::slots;
@@ -37,7 +38,7 @@ fn hand_over(t: &[u32], base: u32, capacity: u32, y1: u32, y2: u32, s: u32, tall
     requires { ⌜ auxiliaryPlace s + armWidth ≤ length (now t) ⌝ }
     ensures { λ r. ⌜ r ≡ handOver♯ (now (t .entry)) capacity (box 0 0 y1 y2) base s tally ⌝ }
 {
-    if t.len() < (base as usize) + layout::RECORD * (capacity as usize) {
+    if SecondaryRecord::lacks_level(t, base, capacity) {
         return limits::LOST;
     }
     let root = PrimaryRecord::load_auxiliary(t, s);

@@ -1,20 +1,33 @@
 // Listing: the same search, which writes each mark that it meets.
 ghost use mathlib.Core.Path.{_≡_};
-ghost use Prim.Native.Nat.{_+_, _≤_};
+ghost use mathlib.Core.Bool.{false};
+ghost use Prim.Native.Nat.{_+_, _<_, _≤_};
 ghost use lib.ListN.{length};
 ghost use Rattle.geometry.specs.Values.{boxValue};
 ghost use Rattle.nodes.specs.Values.{primaryArm};
 ghost use Rattle.table.specs.After.{after};
 ghost use Rattle.table.specs.Layout.{markWidth, armWidth, slotPlace, auxiliaryPlace, slotsEnd};
-ghost use Rattle.primary_search.specs.List.{listLeaf♯, listOver♯, listBeneath♯, listFrom♯};
+ghost use Rattle.primary_search.specs.List.{stops, listLeaf♯, listOver♯, listBeneath♯, listFrom♯};
 use geometry::Box;
 use nodes::primary::PrimaryArm;
 use nodes::primary::PrimaryRecord;
+use nodes::secondary::SecondaryRecord;
 use table::layout;
 use table::limits;
 use table::slots;
 use table::tally::Tally;
 use twofold_layout::levels;
+
+// Whether a listing stops at the node of slot s: its visits are used up, or the node is of no slot.
+fn stops(capacity: u32, s: u32, most: u32, tally: Tally) -> bool
+    ensures is { λ r. ⌜ r ≡ stops capacity s most (tally .0) ⌝ }
+    ensures there { λ r. ⌜ (r ≡ false → s < capacity) ⌝ }
+{
+    if most <= tally.visits() {
+        return true;
+    }
+    capacity <= s
+}
 
 // The arrival at the leaf of slot s.
 fn list_leaf(t: &[u32], b: Box, s: u32, out: &mut [u32], tally: Tally) -> Tally
@@ -43,7 +56,7 @@ fn list_over(
     requires { ⌜ (slotsEnd capacity ≤ length (now t)) × (auxiliaryPlace s + armWidth ≤ length (now t)) ⌝ }
     ensures { λ r. ⌜ after (r .0) (now (out .exit)) ≡ listOver♯ (now (t .entry)) capacity (boxValue b) most base s (tally .0) (now (out .entry)) ⌝ }
 {
-    if t.len() < (base as usize) + layout::RECORD * (capacity as usize) {
+    if SecondaryRecord::lacks_level(t, base, capacity) {
         return Tally::lost();
     }
     let root = PrimaryRecord::load_auxiliary(t, s);
@@ -70,12 +83,9 @@ fn list_beneath(
         return limits::LOST;
     }
     let so_far = Tally(tally);
-    if most <= so_far.visits() {
-        return limits::LOST;
-    }
     let node = a.node;
     let s = node.slot();
-    if capacity <= s {
+    if stops(capacity, s, most, so_far) {
         return limits::LOST;
     }
     if node.is_leaf() {

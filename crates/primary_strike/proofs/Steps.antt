@@ -35,7 +35,7 @@ use Rattle.secondary_update.proofs.Striking.{Strikes, inLeft, inRight, strikes-
 use Rattle.secondary_update.proofs.Auxiliaries.{auxiliary-strike}
 use Rattle.primary_build.proofs.Building.{main-rebuild-holds}
 use Rattle.secondary_update.specs.Updates.{Strike, strikeOf}
-use Rattle.primary_strike.specs.Strike.{lifted♯, struckFresh, struckAfresh♯, armOnly, struckAuxiliary♯, mainStrikeOver}
+use Rattle.primary_strike.specs.Strike.{lifted♯, struckFresh, struckAfresh♯, armOnly, struckAuxiliary♯, mainNodeOver}
 use Rattle.twofold_layout.proofs.Beneath.{deep-two}
 use Rattle.twofold_layout.proofs.Kept.{clear-none, kept-tree}
 use Rattle.twofold_layout.proofs.Node.{kept-sibling, node-leaves}
@@ -65,9 +65,9 @@ module _ (f : ℕ → Mark) (s : ℕ) where
 
 -- the mirror of its writing
 pub over-main : (f : ℕ → Mark) (name : ℕ) (l r : Arm) (x : Tree ℕ (List ℕ)) (n first : ℕ) (zs : List ℕ)
-    → mainStrikeOver name l r (armOf alongY f x) n first zs
+    → mainNodeOver (armOf alongY f x) name l r n first zs
     ≡ after (strikeOf (overArm name l r) n first) (putArm (putRecord zs (mainPlace name) l r) (auxiliaryPlace name) (armOf alongY f x))
-unfolding mainStrikeOver
+unfolding mainNodeOver
 over-main f name l r x n first zs = rw (ne-eqb (weight x) 0 (omega (arith, weight-pos x)))
 
 module _ (f : ℕ → Mark) (C : ℕ) (small : C ≤ 65536) (s : ℕ) where

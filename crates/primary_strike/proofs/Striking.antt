@@ -1,7 +1,7 @@
 -- The strike of a slot that stands in a two-fold tree: the mirror leaves words that hold the model's tree without it. Assumes nothing.
 use Prim.Native.Nat.{ℕ, zero, suc, _+_, _*_, _-_, _/_, _%_, _≤_, _<_}
 use mathlib.Core.Path.{_≡_, refl, sym, ap, _∙_}
-use mathlib.Core.Bool.{true, false}
+use mathlib.Core.Bool.{Bool, true, false}
 use mathlib.Core.List.{List}
 use native.Mathlib.Omega.{arith}
 use lib.Dec.{eqb}
@@ -22,9 +22,11 @@ use Rattle.model.proofs.Depth.{balanced-depth}
 use Rattle.model.proofs.Rebalance.{rebalance-left, rebalance-right, rebuilt-left, rebuilt-right}
 use Rattle.table.specs.Layout.{mainPlace, rootPlace, levelPlace}
 use Rattle.table.specs.Limits.{deepest, damaged}
-use Rattle.nodes.specs.Arms.{noArm, arms, armAt, renamed}
+use Rattle.nodes.specs.Arms.{Record, noArm, arms, Way, way, wayOf, armAt, renamed, firstLeft}
+use Rattle.nodes.specs.Ways.{wayAt}
 use Rattle.nodes.specs.Holds.{number, armOf, times}
 use Rattle.table.specs.After.{After}
+use Rattle.nodes.proofs.Balance.{balanced-swap, balanced-less, heavy-none, way-weight}
 use Rattle.nodes.proofs.Frames.{putArm-same}
 use Rattle.nodes.proofs.Held.{times-node, times-least, held-right, held-least, held-weight, least-marks}
 use Rattle.nodes.proofs.Levels.{most-levels, held-depth, held-shallow}
@@ -33,12 +35,12 @@ use Rattle.twofold_layout.specs.TwoFold.{TwoFold}
 use Rattle.twofold_layout.proofs.Frames.{TwoFrame, arm-twoFrame}
 use Rattle.twofold_layout.proofs.Rules.{rules-left, rules-right}
 use Rattle.twofold_layout.proofs.Over.{TwoLeavesAt, two-left, two-right, top-level, deeper-level, two-main}
-use Rattle.secondary_update.specs.Strike.{ifStruck}
+use Rattle.secondary_update.specs.Strike.{strikeOver}
 use Rattle.secondary_update.proofs.Inserting.{rebuilt-weight}
 use Rattle.secondary_update.proofs.Striking.{strike-leads, struckNode, renamed-least, apart-least}
 use Rattle.secondary_update.proofs.Striking.{Strikes, leftGoes, rightGoes, inLeft, inRight, leads-strikes, strikes-in, strikes-weight}
 use Rattle.secondary_update.specs.Updates.{Strike, strikeOf}
-use Rattle.primary_strike.specs.Strike.{MainStriking, struckAuxiliary♯, mainLeft, mainRight, mainStrikeRecord, mainStrikeNode}
+use Rattle.primary_strike.specs.Strike.{MainStriking, struckAuxiliary♯, mainStrikeHere, mainChild, mainStrikeWay, mainStrikeNode}
 use Rattle.primary_strike.specs.Strike.{strikeBeneath♯, putStruck, strikeRoot, mainStrike♯}
 use Rattle.twofold_layout.proofs.Node.{root-leaves}
 use Rattle.primary_strike.proofs.Steps.{LeavesMain, over-main, struck-rules, goes-holds, afresh-holds}
@@ -62,47 +64,53 @@ module _ (f : ℕ → Mark) (C : ℕ) (small : C ≤ 65536) (s : ℕ) where
   abbrev StruckBy : MainStriking → ℕ → SlotMain → SlotMain → Type 0
   StruckBy rec d t t′ = (xs : List ℕ) → length xs ≡ W C → TwoFold f C d xs t → LeavesMain f C s d xs t t′ (rec (levelPlace C d) (weight t) (number t) xs)
 
-  -- the mirror at an inner node of depth d, on its left and on its right
+  -- the mirror at an inner node of depth d strikes the left child, or the right one
   module _ (rec : MainStriking) (d : ℕ) (l r : SlotMain) (xs : List ℕ) where
     abbrev lefts : After Strike
-    lefts = mainLeft rec C (f s) s (least r) (arms (armOf alongX f l) (armOf alongX f r)) (levelPlace C d) (weight l + weight r) (2 * least r + 1) xs
+    lefts = mainChild rec C (f s) s (least r) (way true (armOf alongX f l) (armOf alongX f r)) (levelPlace C d) (weight l + weight r) (2 * least r + 1) xs
 
     abbrev rights : After Strike
-    rights = mainRight rec C (f s) s (least r) (arms (armOf alongX f l) (armOf alongX f r)) (levelPlace C d) (weight l + weight r) (2 * least r + 1) xs
+    rights = mainChild rec C (f s) s (least r) (way false (armOf alongX f r) (armOf alongX f l)) (levelPlace C d) (weight l + weight r) (2 * least r + 1) xs
 
   -- at a node whose words are right, the mirror goes by the order
   beneath-node : (n d : ℕ) (i : SlotAuxiliary) (l r : SlotMain) (xs : List ℕ) → TwoFold f C d xs (node i l r)
       → strikeBeneath♯ (suc n) C (f s) s (levelPlace C d) (weight l + weight r) (2 * least r + 1) xs
       ≡ (let rec : MainStriking = strikeBeneath♯ n C (f s) s in
-      if alongX .below (f s) (f (least r)) then lefts rec d l r xs else rights rec d l r xs)
-  unfolding strikeBeneath♯ mainStrikeNode mainStrikeRecord
+      let v : Way = wayOf (arms (armOf alongX f l) (armOf alongX f r)) (alongX .below (f s) (f (least r))) in
+      mainChild rec C (f s) s (least r) v (levelPlace C d) (weight l + weight r) (2 * least r + 1) xs)
+  unfolding strikeBeneath♯ mainStrikeNode mainStrikeWay wayAt
   beneath-node n d i l r xs h =
       let half : (2 * least r + 1) / 2 ≡ least r = omega arith in
-      let w : eqb (weight l + weight r) (weight l + weight r) ≡ true = eq-eqb (weight l + weight r) (weight l + weight r) refl in
+      let p : Record = arms (armOf alongX f l) (armOf alongX f r) in
+      let left : Bool = alongX .below (f s) (f (least r)) in
+      let v : Way = wayOf p left in
+      let w = eq-eqb (v .child .weight + v .sibling .weight) (weight l + weight r) (way-weight p left) in
       rw (
         half,
         lt-leb C (least r) (held-least (held-right (h .main))),
         h .main .records .0,
-        w,
         h .main .marked (least r) (omega (arith, times-node (least r) i l r, times-least r)),
+        w,
       )
 
   -- THE STEPS where the slot's leaf is a child of the node
   left-goes : (rec : MainStriking) (d : ℕ) (i : SlotAuxiliary) (r : SlotMain) (xs : List ℕ) → length xs ≡ W C → TwoFold f C d xs (node i (leaf s) r)
       → ByRules f (node i (leaf s) r) → d + depth (node i (leaf s) r) ≤ D C
       → LeavesMain f C s d xs (node i (leaf s) r) r (lefts rec d (leaf s) r xs)
-  unfolding mainLeft
+  unfolding mainChild mainStrikeHere firstLeft
   left-goes rec d i r xs ln h b deep =
-      goes-holds f C small s d r xs (node i (leaf s) r) (least r) ln (two-right h) (rules-right f b) (omega (arith, b .balanced .0))
-      (omega arith) (λ e. refl)
+      rw (heavy-none (weight r) (weight-pos r))
+      (goes-holds f C small s d r xs (node i (leaf s) r) (least r) ln (two-right h) (rules-right f b) (omega (arith, b .balanced .0))
+      (omega arith) (λ e. refl))
 
   right-goes : (rec : MainStriking) (d : ℕ) (i : SlotAuxiliary) (l : SlotMain) (xs : List ℕ) → length xs ≡ W C → TwoFold f C d xs (node i l (leaf s))
       → ByRules f (node i l (leaf s)) → d + depth (node i l (leaf s)) ≤ D C
       → LeavesMain f C s d xs (node i l (leaf s)) l (rights rec d l (leaf s) xs)
-  unfolding mainRight
+  unfolding mainChild mainStrikeHere firstLeft
   right-goes rec d i l xs ln h b deep =
-      goes-holds f C small s d l xs (node i l (leaf s)) 0 ln (two-left h) (rules-left f b) (omega (arith, b .balanced .1))
-      (omega arith) (λ e. absurd (apart-least i l (leaf s) s (h .main .once) (times-least {I = SlotAuxiliary} (leaf s)) e))
+      rw (heavy-none (weight l) (weight-pos l))
+      (goes-holds f C small s d l xs (node i l (leaf s)) 0 ln (two-left h) (rules-left f b) (omega (arith, b .balanced .1))
+      (omega arith) (λ e. absurd (apart-least i l (leaf s) s (h .main .once) (times-least {I = SlotAuxiliary} (leaf s)) e)))
 
   -- THE STEPS where it stands deeper
   module _ (rec : MainStriking) (d : ℕ) (i : SlotAuxiliary) (l r : SlotMain) (xs : List ℕ) (ln : length xs ≡ W C)
@@ -116,7 +124,7 @@ module _ (f : ℕ → Mark) (C : ℕ) (small : C ≤ 65536) (s : ℕ) where
     -- the node stays even: its auxiliary tree is struck, then one child, and it is written anew
     left-even : (l′ : SlotMain) → alongX .below (f s) (f (least r)) ≡ true → Strikes alongX f s R l l′ → evenly l′ r ≡ true → StruckBy rec (suc d) l l′
         → LeavesMain f C s d xs (node i l r) (node here l′ r) (lefts rec d l r xs)
-    unfolding mainLeft ifStruck strikeOf
+    unfolding mainChild strikeOver strikeOf
     left-even l′ e k even struckBy =
         let u = node-struck f C small s d i l r xs ln h b level (omega (arith, strikes-in alongX f s R k, times-node s i l r)) in
         let ys : List ℕ = struckAuxiliary♯ C (f s) s (levelPlace C d) (least r) xs .words in
@@ -124,11 +132,19 @@ module _ (f : ℕ → Mark) (C : ℕ) (small : C ≤ 65536) (s : ℕ) where
         let p : After Strike = rec (levelPlace C (suc d)) (weight l) (number l) ys in
         let m : SlotMain = rebalance X R l′ in
         let w = strikes-weight alongX f s R k in
-        let many : eqb (weight l) 1 ≡ false = ne-eqb (weight l) 1 (omega (arith, weight-pos l′)) in
         let less : weight l - 1 ≡ weight l′ = omega arith in
         let one : p .out .arm .weight ≡ weight l′ = ap (λ a. a .weight) (q .leaves .is) ∙ rebalance-weight X R l′ in
         let over = over-main f (least r) (armOf alongX f m) (armOf alongX f r) (u .tree) (p .out .rebuilt) (p .out .first) (p .words) in
-        rw (many, less, even, deeper-level C d small low, eq-eqb (p .out .arm .weight) (weight l′) one, q .leaves .is, u .leaves .is, over) record {
+        rw (
+          less,
+          ← balanced-less (weight l) (weight r) (weight l′) (b .balanced .1) w,
+          even,
+          deeper-level C d small low,
+          eq-eqb (p .out .arm .weight) (weight l′) one,
+          q .leaves .is,
+          u .leaves .is,
+          over,
+        ) record {
           leaves = rw (rebalance-left X R here l′ r (b .balanced .3), even) (left-node f C small s d i l r xs ln h b level u l′ p e k q);
           figure = rw (rebuilt-left here l′ r (b .balanced .3), even) (q .figure);
           first = q .first;
@@ -136,7 +152,7 @@ module _ (f : ℕ → Mark) (C : ℕ) (small : C ≤ 65536) (s : ℕ) where
 
     right-even : (r′ : SlotMain) → alongX .below (f s) (f (least r)) ≡ false → Strikes alongX f s R r r′ → evenly l r′ ≡ true → StruckBy rec (suc d) r r′
         → LeavesMain f C s d xs (node i l r) (node here l r′) (rights rec d l r xs)
-    unfolding mainRight ifStruck strikeOf
+    unfolding mainChild strikeOver strikeOf
     right-even r′ e k even struckBy =
         let u = node-struck f C small s d i l r xs ln h b level (omega (arith, strikes-in alongX f s R k, times-node s i l r)) in
         let ys : List ℕ = struckAuxiliary♯ C (f s) s (levelPlace C d) (least r) xs .words in
@@ -144,7 +160,6 @@ module _ (f : ℕ → Mark) (C : ℕ) (small : C ≤ 65536) (s : ℕ) where
         let p : After Strike = rec (levelPlace C (suc d)) (weight r) (number r) ys in
         let m : SlotMain = rebalance X R r′ in
         let w = strikes-weight alongX f s R k in
-        let many : eqb (weight r) 1 ≡ false = ne-eqb (weight r) 1 (omega (arith, weight-pos r′)) in
         let less : weight r - 1 ≡ weight r′ = omega arith in
         let one : p .out .arm .weight ≡ weight r′ = ap (λ a. a .weight) (q .leaves .is) ∙ rebalance-weight X R r′ in
         let first-m : least m ≡ least r′ = least-marks m r′ (rebalance-marks X R r′) in
@@ -152,7 +167,18 @@ module _ (f : ℕ → Mark) (C : ℕ) (small : C ≤ 65536) (s : ℕ) where
         let named : renamed C (least r) s (p .out .first) ≡ least m =
         renamed-least alongX f R mainPlace C s r r′ (p .out .first) k inC (q .first) ∙ sym first-m in
         let over = over-main f (least m) (armOf alongX f l) (armOf alongX f m) (u .tree) (p .out .rebuilt) 0 (p .words) in
-        rw (many, less, even, deeper-level C d small low, eq-eqb (p .out .arm .weight) (weight r′) one, q .leaves .is, u .leaves .is, named, over) record {
+        rw (
+          less,
+          ← balanced-less (weight r) (weight l) (weight r′) (omega (arith, b .balanced .0)) w,
+          balanced-swap (weight r′) (weight l),
+          even,
+          deeper-level C d small low,
+          eq-eqb (p .out .arm .weight) (weight r′) one,
+          q .leaves .is,
+          u .leaves .is,
+          named,
+          over,
+        ) record {
           leaves = rw (rebalance-right X R here l r′ (b .balanced .2), even) (right-node f C small s d i l r xs ln h b level u r′ p e k q);
           figure = rw (rebuilt-right here l r′ (b .balanced .2), even) (q .figure);
           first = λ z. absurd (apart-least i l r s (h .main .once) (strikes-in alongX f s R k) z);
@@ -162,24 +188,24 @@ module _ (f : ℕ → Mark) (C : ℕ) (small : C ≤ 65536) (s : ℕ) where
     left-uneven : (l′ : SlotMain) → alongX .below (f s) (f (least r)) ≡ true → Strikes alongX f s R l l′ → depth (node i l r) < 40
         → d + depth (rebalance X R (node here l′ r)) ≤ D C → evenly l′ r ≡ false
         → LeavesMain f C s d xs (node i l r) (node here l′ r) (lefts rec d l r xs)
-    unfolding mainLeft
+    unfolding mainChild mainStrikeHere
     left-uneven l′ e k shallow deep′ uneven =
         let w = strikes-weight alongX f s R k in
         let many : eqb (weight l) 1 ≡ false = ne-eqb (weight l) 1 (omega (arith, weight-pos l′)) in
         let less : weight l - 1 ≡ weight l′ = omega arith in
-        rw (many, less, uneven)
+        rw (less, ← balanced-less (weight l) (weight r) (weight l′) (b .balanced .1) w, uneven, many)
         (afresh-holds f C small s d (least l′) (node i l r) (node here l′ r) xs (inLeft e k) ln h b shallow deep′
         (rw (rebalance-left X R here l′ r (b .balanced .3), uneven)) (rw (rebuilt-left here l′ r (b .balanced .3), uneven)))
 
     right-uneven : (r′ : SlotMain) → alongX .below (f s) (f (least r)) ≡ false → Strikes alongX f s R r r′ → depth (node i l r) < 40
         → d + depth (rebalance X R (node here l r′)) ≤ D C → evenly l r′ ≡ false
         → LeavesMain f C s d xs (node i l r) (node here l r′) (rights rec d l r xs)
-    unfolding mainRight
+    unfolding mainChild mainStrikeHere
     right-uneven r′ e k shallow deep′ uneven =
         let w = strikes-weight alongX f s R k in
         let many : eqb (weight r) 1 ≡ false = ne-eqb (weight r) 1 (omega (arith, weight-pos r′)) in
         let less : weight r - 1 ≡ weight r′ = omega arith in
-        rw (many, less, uneven)
+        rw (less, ← balanced-less (weight r) (weight l) (weight r′) (omega (arith, b .balanced .0)) w, balanced-swap (weight r′) (weight l), uneven, many)
         (afresh-holds f C small s d (least l) (node i l r) (node here l r′) xs (inRight e k) ln h b shallow deep′
         (rw (rebalance-right X R here l r′ (b .balanced .2), uneven)) (rw (rebuilt-right here l r′ (b .balanced .2), uneven)))
 
@@ -206,6 +232,7 @@ module _ (f : ℕ → Mark) (C : ℕ) (small : C ≤ 65536) (s : ℕ) where
   -- along the way
   strikes-beneath : (n : ℕ) {t t′ : SlotMain} → Strikes alongX f s R t t′ → (d : ℕ) → ByRules f t → d + depth t ≤ D C → d + depth (rebalance X R t′) ≤ D C
       → depth t < n → depth t < 40 → StruckBy (strikeBeneath♯ n C (f s) s) d t t′
+  unfolding wayOf
   strikes-beneath zero k d b deep deep′ fuel low = absurd (omega arith)
   strikes-beneath (suc n) (leftGoes {i = i} {r = r} e) d b deep deep′ fuel low = λ xs ln h.
       rw (beneath-node n d i (leaf s) r xs h, e) (left-goes (strikeBeneath♯ n C (f s) s) d i r xs ln h b deep)

@@ -6,16 +6,16 @@ use mathlib.Core.List.{List}
 use native.Mathlib.Omega.{arith}
 use lib.Dec.{leb, eqb}
 use Rattle.model.specs.Lists.{if_then_else_}
-use Rattle.model.specs.Sheet.{Mark, belowX}
+use Rattle.model.specs.Sheet.{Mark, alongX}
 use Rattle.table.specs.Layout.{mainPlace, auxiliaryPlace, rootPlace}
 use Rattle.table.specs.Limits.{deepest, damaged, siblingDeepest}
-use Rattle.table.specs.Marks.{slotMark}
-use Rattle.nodes.specs.Arms.{Arm, Record, noArm, overArm, armAt, putArm, recordAt, putRecord, renamed}
-use Rattle.nodes.specs.Weights.{balanced}
+use Rattle.nodes.specs.Arms.{Arm, Way, noArm, overArm, armAt, putArm, putRecord, firstLeft}
+use Rattle.nodes.specs.Ways.{wayAt}
+use Rattle.nodes.specs.Weights.{isHeavy}
 use Rattle.table.specs.After.{After, after}
 use Rattle.twofold_layout.specs.Levels.{topLevel, deeper}
 use Rattle.secondary_update.specs.Updates.{Strike, strikeOf, noStrike}
-use Rattle.secondary_update.specs.Strike.{ifStruck, auxiliaryStrike♯}
+use Rattle.secondary_update.specs.Strike.{Writing, strikeOver, auxiliaryStrike♯}
 use Rattle.primary_build.specs.Build.{Freshly, mainRebuild♯}
 use Rattle.primary_strike.specs.Lift.{lift♯}
 
@@ -41,38 +41,34 @@ unfoldable pub struckAuxiliary♯ : ℕ → Mark → ℕ → ℕ → ℕ → Lis
 struckAuxiliary♯ capacity m s base name xs = armOnly (auxiliaryStrike♯ base capacity m s name xs)
 
 -- the node over two trees is written, with its auxiliary tree
-unfoldable pub mainStrikeOver : ℕ → Arm → Arm → Arm → ℕ → ℕ → List ℕ → After Strike
-mainStrikeOver name l r x rebuilt first xs =
+unfoldable pub mainNodeOver : Arm → Writing
+mainNodeOver x name l r rebuilt first xs =
     if eqb (x .weight) 0 then after noStrike xs
     else after (strikeOf (overArm name l r) rebuilt first) (putArm (putRecord xs (mainPlace name) l r) (auxiliaryPlace name) x)
 
-unfoldable pub mainLeft : MainStriking → ℕ → Mark → ℕ → ℕ → Record → MainStriking
-mainLeft rec capacity m s name p base w n xs =
-    if eqb (p .left .weight) 1 then lifted♯ capacity base (p .right) name xs
-    else (if balanced (p .left .weight - 1) (p .right .weight)
-    then (let x : After Arm = struckAuxiliary♯ capacity m s base name xs in
-    ifStruck (p .left .weight - 1) (rec (deeper base capacity) (p .left .weight) (p .left .node) (x .words))
-    (λ c rebuilt first ws. mainStrikeOver name c (p .right) (x .out) rebuilt first ws))
-    else struckAfresh♯ capacity s base w n xs)
+-- a node that is not balanced with one mark less: the struck leaf's sibling takes its place, or it is built afresh
+unfoldable pub mainStrikeHere : ℕ → ℕ → ℕ → Way → MainStriking
+mainStrikeHere capacity s name v base w n xs =
+    if eqb (v .child .weight) 1 then lifted♯ capacity base (v .sibling) (firstLeft (v .left) name) xs else struckAfresh♯ capacity s base w n xs
 
-unfoldable pub mainRight : MainStriking → ℕ → Mark → ℕ → ℕ → Record → MainStriking
-mainRight rec capacity m s name p base w n xs =
-    if eqb (p .right .weight) 1 then lifted♯ capacity base (p .left) 0 xs
-    else (if balanced (p .left .weight) (p .right .weight - 1)
+-- the node's auxiliary tree is struck and then the child on the mark's way, or the node itself
+unfoldable pub mainChild : MainStriking → ℕ → Mark → ℕ → ℕ → Way → MainStriking
+mainChild rec capacity m s name v base w n xs =
+    if isHeavy (v .child .weight - 1) (v .sibling .weight)
     then (let x : After Arm = struckAuxiliary♯ capacity m s base name xs in
-    ifStruck (p .right .weight - 1) (rec (deeper base capacity) (p .right .weight) (p .right .node) (x .words))
-    (λ c rebuilt first ws. mainStrikeOver (renamed capacity name s first) (p .left) c (x .out) rebuilt 0 ws))
-    else struckAfresh♯ capacity s base w n xs)
+    strikeOver (mainNodeOver (x .out)) capacity s name v (rec (deeper base capacity) (v .child .weight) (v .child .node) (x .words)))
+    else mainStrikeHere capacity s name v base w n xs
 
-unfoldable pub mainStrikeRecord : MainStriking → ℕ → Mark → ℕ → ℕ → Record → MainStriking
-mainStrikeRecord rec capacity m s name p base w n xs =
-    if not (eqb (p .left .weight + p .right .weight) w) then after noStrike xs
-    else (if belowX m (slotMark xs name) then mainLeft rec capacity m s name p base w n xs else mainRight rec capacity m s name p base w n xs)
+-- children whose weights are not the node's are damage
+unfoldable pub mainStrikeWay : MainStriking → ℕ → Mark → ℕ → ℕ → Way → MainStriking
+mainStrikeWay rec capacity m s name v base w n xs =
+    if not (eqb (v .child .weight + v .sibling .weight) w) then after noStrike xs else mainChild rec capacity m s name v base w n xs
 
 -- a node of no slot is damage
 unfoldable pub mainStrikeNode : MainStriking → ℕ → Mark → ℕ → MainStriking
 mainStrikeNode rec capacity m s base w n xs =
-    if leb capacity (n / 2) then after noStrike xs else mainStrikeRecord rec capacity m s (n / 2) (recordAt xs (mainPlace (n / 2))) base w n xs
+    if leb capacity (n / 2) then after noStrike xs
+    else mainStrikeWay rec capacity m s (n / 2) (wayAt alongX mainPlace m (n / 2) xs) base w n xs
 
 unfoldable pub strikeBeneath♯ : ℕ → ℕ → Mark → ℕ → MainStriking
 strikeBeneath♯ zero capacity m s base w n xs = after noStrike xs

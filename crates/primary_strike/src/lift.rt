@@ -6,7 +6,7 @@ ghost use Rattle.table.specs.Layout.{runsEnd};
 ghost use Rattle.primary_strike.specs.Lift.{lift♯};
 use nodes::primary::Primary;
 use nodes::primary::PrimaryRecord;
-use table::layout;
+use nodes::secondary::SecondaryRecord;
 use table::limits;
 use twofold_layout::levels;
 
@@ -26,10 +26,10 @@ pub fn lift(t: &mut [u32], from: u32, to: u32, capacity: u32, node: Primary, fue
     if capacity <= name {
         return;
     }
-    if t.len() < (from as usize) + layout::RECORD * (capacity as usize) {
+    if SecondaryRecord::lacks_level(t, from, capacity) {
         return;
     }
-    if t.len() < (to as usize) + layout::RECORD * (capacity as usize) {
+    if SecondaryRecord::lacks_level(t, to, capacity) {
         return;
     }
     let p = PrimaryRecord::load(t, name);

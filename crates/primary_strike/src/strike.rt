@@ -5,9 +5,10 @@ ghost use lib.ListN.{length};
 ghost use Rattle.geometry.specs.Values.{markValue};
 ghost use Rattle.table.specs.After.{after};
 ghost use Rattle.table.specs.Layout.{slotWidth, slotPlace, runsEnd};
-ghost use Rattle.nodes.specs.Values.{primaryArm, secondaryArm};
+ghost use Rattle.nodes.specs.Values.{primaryArm, primaryWay, secondaryArm};
+ghost use Rattle.secondary_update.specs.Strike.{strikeOver};
 ghost use Rattle.secondary_update.specs.Updates.{strikeOf, noStrike};
-ghost use Rattle.primary_strike.specs.Strike.{lifted♯, struckAfresh♯, struckAuxiliary♯, mainStrikeOver, strikeBeneath♯, mainStrike♯};
+ghost use Rattle.primary_strike.specs.Strike.{lifted♯, struckAfresh♯, struckAuxiliary♯, mainNodeOver, mainStrikeHere, strikeBeneath♯, mainStrike♯};
 ghost use Rattle.primary_strike.specs.Values.{mainStruckValue};
 use crate::lift;
 use geometry::Mark;
@@ -15,11 +16,11 @@ use nodes::arm;
 use nodes::primary::Primary;
 use nodes::primary::PrimaryArm;
 use nodes::primary::PrimaryRecord;
+use nodes::primary::PrimaryWay;
 use nodes::secondary::SecondaryArm;
 use nodes::weights;
 use table::layout;
 use table::limits;
-use table::slots;
 use twofold_layout::levels;
 
 // What a strike leaves of a main tree: its arm, the weight of the node built afresh, or 0, and its least slot where the struck one was the least. Weight
@@ -96,7 +97,7 @@ fn strike_auxiliary(
 }
 
 // Writes the main node of that name over l and r, with its auxiliary tree.
-fn strike_over(
+fn node_over(
     t: &mut [u32],
     name: u32,
     l: PrimaryArm,
@@ -107,7 +108,7 @@ fn strike_over(
 ) -> Struck
     requires { ⌜ slotPlace name + slotWidth ≤ length (now t) ⌝ }
     ensures { λ u. ⌜ after (mainStruckValue u) (now (t .exit))
-        ≡ mainStrikeOver name (primaryArm l) (primaryArm r) (secondaryArm auxiliary) rebuilt first (now (t .entry)) ⌝ }
+        ≡ mainNodeOver (secondaryArm auxiliary) name (primaryArm l) (primaryArm r) rebuilt first (now (t .entry)) ⌝ }
 {
     if auxiliary.weight == 0 {
         return damaged();
@@ -115,6 +116,55 @@ fn strike_over(
     PrimaryRecord::store(t, name, l, r);
     PrimaryRecord::store_auxiliary(t, name, auxiliary);
     answer(PrimaryArm::over(name, l, r), rebuilt, first)
+}
+
+// Writes the node over what the strike left of the child on the mark's way, which is to have lost one mark, and the other child.
+fn strike_over(
+    t: &mut [u32],
+    capacity: u32,
+    name: u32,
+    s: u32,
+    v: PrimaryWay,
+    auxiliary: SecondaryArm,
+    u: Struck,
+) -> Struck
+    requires { ⌜ (name < capacity) × (runsEnd capacity ≤ length (now t)) ⌝ }
+    ensures { λ r. ⌜ after (mainStruckValue r) (now (t .exit))
+        ≡ strikeOver (mainNodeOver (secondaryArm auxiliary)) capacity s name (primaryWay v) (after (mainStruckValue u) (now (t .entry))) ⌝ }
+{
+    let struck = u.arm;
+    let child = v.child;
+    let sibling = v.sibling;
+    if struck.weight == weights::fewer(child.weight) {
+        if v.left {
+            return node_over(t, name, struck, sibling, auxiliary, u.rebuilt, u.first);
+        }
+        let named = arm::renamed(capacity, name, s, u.first);
+        return node_over(t, named, sibling, struck, auxiliary, u.rebuilt, 0);
+    }
+    damaged()
+}
+
+// Strikes at a node that is not balanced with one mark less: the struck leaf's sibling takes its place, or it is built afresh without the slot s.
+fn strike_here(
+    t: &mut [u32],
+    base: u32,
+    capacity: u32,
+    node: Primary,
+    weight: u32,
+    name: u32,
+    v: PrimaryWay,
+    s: u32,
+) -> Struck
+    requires { ⌜ (0 < capacity) × (runsEnd capacity ≤ length (now t)) ⌝ }
+    ensures { λ u. ⌜ after (mainStruckValue u) (now (t .exit)) ≡ mainStrikeHere capacity s name (primaryWay v) base weight (node .0) (now (t .entry)) ⌝ }
+{
+    let child = v.child;
+    let sibling = v.sibling;
+    if child.weight == 1 {
+        return lifted(t, base, capacity, sibling, arm::first_left(v.left, name));
+    }
+    strike_afresh(t, base, capacity, node, weight, s)
 }
 
 // Strikes the mark m of slot s beneath an inner node of that number and weight, whose level begins at base. A node of no slot is damage, and so is a child that
@@ -139,44 +189,19 @@ fn strike_beneath(
     if capacity <= name {
         return damaged();
     }
-    let p = PrimaryRecord::load(t, name);
-    let l = p.left;
-    let r = p.right;
-    if weights::disagree(l.weight, r.weight, weight) {
+    let v = PrimaryRecord::way(t, name, m);
+    let child = v.child;
+    let sibling = v.sibling;
+    if weights::disagree(child.weight, sibling.weight, weight) {
         return damaged();
     }
-    let next = levels::deeper(base, capacity);
-    if m.below_x(slots::load(t, name)) {
-        if l.weight == 1 {
-            return lifted(t, base, capacity, r, name);
-        }
-        let less = weights::fewer(l.weight);
-        if weights::balanced(less, r.weight) {
-            let x = strike_auxiliary(t, base, capacity, name, m, s);
-            let u = strike_beneath(t, next, capacity, l.node, l.weight, m, s, fuel - 1);
-            let c = u.arm;
-            if c.weight == less {
-                return strike_over(t, name, c, r, x, u.rebuilt, u.first);
-            }
-            return damaged();
-        }
-        return strike_afresh(t, base, capacity, node, weight, s);
-    }
-    if r.weight == 1 {
-        return lifted(t, base, capacity, l, 0);
-    }
-    let less = weights::fewer(r.weight);
-    if weights::balanced(l.weight, less) {
+    if weights::stays_balanced(child.weight, sibling.weight) {
         let x = strike_auxiliary(t, base, capacity, name, m, s);
-        let u = strike_beneath(t, next, capacity, r.node, r.weight, m, s, fuel - 1);
-        let c = u.arm;
-        if c.weight == less {
-            let named = arm::renamed(capacity, name, s, u.first);
-            return strike_over(t, named, l, c, x, u.rebuilt, 0);
-        }
-        return damaged();
+        let next = levels::deeper(base, capacity);
+        let u = strike_beneath(t, next, capacity, child.node, child.weight, m, s, fuel - 1);
+        return strike_over(t, capacity, name, s, v, x, u);
     }
-    strike_afresh(t, base, capacity, node, weight, s)
+    strike_here(t, base, capacity, node, weight, name, v, s)
 }
 
 // Strikes the mark m of slot s; gives the weight of the main node built afresh, or 0. Striking a lone leaf leaves no tree.

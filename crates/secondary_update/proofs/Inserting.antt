@@ -14,7 +14,7 @@ use Rattle.model.specs.Axis.{Space, Axis}
 use Rattle.model.specs.Register.{Register}
 use Rattle.model.specs.Sheet.{Mark, Box}
 use Rattle.model.specs.Slots.{slotAxis}
-use Rattle.model.specs.Tree.{Tree, leaf, node, weight, depth, marks, least, greatest, evenly, build, insertLeaf, rebuilt}
+use Rattle.model.specs.Tree.{Tree, leaf, node, weight, depth, marks, least, greatest, evenly, Balanced, build, insertLeaf, rebuilt}
 use Rattle.model.specs.Laws.{AxisLaws, Sorted}
 use Rattle.model.proofs.Logic.{by-cases, clash}
 use Rattle.model.proofs.Sorted.{sorted-left, sorted-right, sorted-across}
@@ -22,8 +22,10 @@ use Rattle.model.proofs.Tree.{weight-pos, weight-marks, marks-pos, all-least, a
 use Rattle.model.proofs.Rebalance.{rebalance-left, rebalance-right, rebuilt-left, rebuilt-right}
 use Rattle.table.specs.Limits.{damaged, noSlot}
 use Rattle.table.specs.Marks.{slotMark}
-use Rattle.nodes.specs.Arms.{Arm, arm, arms, grownArm, armAt, putArm, childAt}
+use Rattle.nodes.specs.Arms.{Arm, arm, Record, arms, Way, wayOf, grownArm, armAt, putArm, childAt}
+use Rattle.nodes.specs.Ways.{wayAt}
 use Rattle.nodes.specs.Weights.{sum, unbalances}
+use Rattle.nodes.proofs.Balance.{balanced-swap, balanced-more, balanced-heavy, way-weight}
 use Rattle.table.specs.Words.{lesser, greater}
 use Rattle.nodes.specs.Holds.{number, armOf, times, Held}
 use Rattle.table.specs.After.{After, after}
@@ -35,7 +37,7 @@ use Rattle.nodes.proofs.Collecting.{every-slot}
 use Rattle.secondary_build.specs.Build.{rebuild♯}
 use Rattle.secondary_build.proofs.Building.{rebuild-holds}
 use Rattle.secondary_update.specs.Insert.{nodeAt, split♯, putFresh, rebuiltAt, afresh♯}
-use Rattle.secondary_update.specs.Insert.{Insertion, insertAfresh, insertWay, insertRecord, insertArm, insertNode, insert♯}
+use Rattle.secondary_update.specs.Insert.{Insertion, insertAfresh, insertChild, insertWay, insertArm, insertNode, insert♯}
 use Rattle.secondary_update.proofs.Mending.{mended, figure, MayMend}
 use Rattle.secondary_update.proofs.Mended.{mended-marks, mended-times, mended-weight, mended-least, mayMend-left, mayMend-right}
 use Rattle.secondary_update.proofs.Node.{node-leaves}
@@ -414,21 +416,24 @@ module _ {I : Type 0} (A : Axis Mark Box) (f : ℕ → Mark) (R : Register ℕ B
 
       -- the mirror at a node, and its way to either child
       insert♯-node : (fuel : ℕ) (mends : Bool) → insert♯ A (suc fuel) C place (f s) s mends at xs
-          ≡ insertWay A (insert♯ A fuel C place (f s) s) C place (f s) (least r) (A .below (f s) (f (least r)))
-          (arms (armOf A f l) (armOf A f r)) mends at (armOf A f (node i l r)) xs
-      unfolding insert♯ insertNode insertArm insertRecord
+          ≡ insertChild A (insert♯ A fuel C place (f s) s) C place (f s) (least r)
+          (wayOf (arms (armOf A f l) (armOf A f r)) (A .below (f s) (f (least r)))) mends at (armOf A f (node i l r)) xs
+      unfolding insert♯ insertNode insertArm insertWay wayAt
       insert♯-node fuel mends =
           let odd : ((2 * least r + 1) % 2 ≡ 0 → ⊥) = omega arith in
           let half : (2 * least r + 1) / 2 ≡ least r = omega arith in
           let member : 0 < times (least r) (node i l r) = omega (arith, times-node (least r) i l r, times-least r) in
+          let p : Record = arms (armOf A f l) (armOf A f r) in
+          let left : Bool = A .below (f s) (f (least r)) in
+          let v : Way = wayOf p left in
           rw (
             k .is,
             half,
             lt-leb C (least r) named,
             ne-eqb ((2 * least r + 1) % 2) 0 odd,
             k .held .records .0,
-            eq-eqb (weight l + weight r) (weight l + weight r) refl,
             k .held .marked (least r) member,
+            eq-eqb (v .child .weight + v .sibling .weight) (weight l + weight r) (way-weight p left),
           )
 
       next-left : sum (weight l) 1 ≡ weight (grow l)
@@ -438,50 +443,57 @@ module _ {I : Type 0} (A : Axis Mark Box) (f : ℕ → Mark) (R : Register ℕ B
       next-right = sum-one (weight r) (omega (arith, held-weight (held-right (k .held)), k .region .small)) ∙ sym (insert-weight X R s r)
 
       module _ (rec : Insertion) where
-        abbrev Way : Bool → Bool → After ℕ
-        Way left mends = insertWay A rec C place (f s) (least r) left (arms (armOf A f l) (armOf A f r)) mends at (armOf A f (node i l r)) xs
+        abbrev Onward : Bool → Bool → After ℕ
+        Onward left mends =
+            insertChild A rec C place (f s) (least r) (wayOf (arms (armOf A f l) (armOf A f r)) left) mends at (armOf A f (node i l r)) xs
 
-        way-left : (mends : Bool) → Steady X R here (grow l) r mends → Way true mends ≡ rec mends (place (least r)) widened
-        unfolding insertWay unbalances childAt
-        way-left true t = rw (next-left, t refl)
+        way-left : (mends : Bool) → Steady X R here (grow l) r mends → Onward true mends ≡ rec mends (place (least r)) widened
+        unfolding insertChild wayOf unbalances childAt
+        way-left true t = rw (next-left, balanced-heavy (weight (grow l)) (weight r) (t refl))
         way-left false t = refl
 
-        way-right : (mends : Bool) → Steady X R here l (grow r) mends → Way false mends ≡ rec mends (place (least r) + 4) widened
-        unfolding insertWay unbalances childAt
-        way-right true t = rw (next-right, t refl)
+        way-right : (mends : Bool) → Steady X R here l (grow r) mends → Onward false mends ≡ rec mends (place (least r) + 4) widened
+        unfolding insertChild wayOf unbalances childAt
+        way-right true t = rw (next-right, balanced-heavy (weight (grow r)) (weight l) (balanced-swap (weight (grow r)) (weight l) ∙ t refl))
         way-right false t = refl
 
-        afresh-left : evenly (grow l) r ≡ false → Way true true ≡ insertAfresh A rec C place at xs
-        unfolding insertWay unbalances
-        afresh-left u = rw (next-left, u)
+        afresh-left : Balanced (node i l r) → evenly (grow l) r ≡ false → Onward true true ≡ insertAfresh A rec C place at xs
+        unfolding insertChild wayOf unbalances
+        afresh-left b u = rw (next-left, ← balanced-more (weight l) (weight r) (weight (grow l)) (b .0) (insert-weight X R s l), u)
 
-        afresh-right : evenly l (grow r) ≡ false → Way false true ≡ insertAfresh A rec C place at xs
-        unfolding insertWay unbalances
-        afresh-right u = rw (next-right, u)
+        afresh-right : Balanced (node i l r) → evenly l (grow r) ≡ false → Onward false true ≡ insertAfresh A rec C place at xs
+        unfolding insertChild wayOf unbalances
+        afresh-right b u =
+            rw (
+              next-right,
+              ← balanced-more (weight r) (weight l) (weight (grow r)) (omega (arith, b .1)) (insert-weight X R s r),
+              balanced-swap (weight (grow r)) (weight l),
+              u,
+            )
 
         -- where mending is asked and the node will not be even, its tree is grown without mending, and then built afresh
         module _ (shallow : depth (node i l r) + 1 < 40) where
-          left-way : (mends : Bool) → A .below (f s) (f (least r)) ≡ true → MayMend mends r
+          left-way : (mends : Bool) → A .below (f s) (f (least r)) ≡ true → MayMend mends (node i l r)
               → Grows (place (least r)) widened (rec mends (place (least r)) widened) mends (grow l)
               → (mends ≡ true → Grows at xs (rec false at xs) false (grow (node i l r)))
-              → Grows at xs (Way true mends) mends (node here (grow l) r)
+              → Grows at xs (Onward true mends) mends (node here (grow l) r)
           left-way true e b h again =
               by-cases (evenly (grow l) r)
-              (λ t. rw (way-left true (λ z. t)) (left-grows true (rec true (place (least r)) widened) e b (λ z. t) h))
-              (λ u. rw (afresh-left u)
+              (λ t. rw (way-left true (λ z. t)) (left-grows true (rec true (place (least r)) widened) e (b .3) (λ z. t) h))
+              (λ u. rw (afresh-left b u)
               (again-grows at xs rec here (grow l) r (k .region) (rw e at (k .spot))
               (omega (arith, insert-depth X R s l)) u (rw e at (again refl))))
           left-way false e b h again =
               rw (way-left false (λ z. clash z refl)) (left-grows false (rec false (place (least r)) widened) e b (λ z. clash z refl) h)
 
-          right-way : (mends : Bool) → A .below (f s) (f (least r)) ≡ false → MayMend mends l
+          right-way : (mends : Bool) → A .below (f s) (f (least r)) ≡ false → MayMend mends (node i l r)
               → Grows (place (least r) + 4) widened (rec mends (place (least r) + 4) widened) mends (grow r)
               → (mends ≡ true → Grows at xs (rec false at xs) false (grow (node i l r)))
-              → Grows at xs (Way false mends) mends (node here l (grow r))
+              → Grows at xs (Onward false mends) mends (node here l (grow r))
           right-way true e b h again =
               by-cases (evenly l (grow r))
-              (λ t. rw (way-right true (λ z. t)) (right-grows true (rec true (place (least r) + 4) widened) e b (λ z. t) h))
-              (λ u. rw (afresh-right u)
+              (λ t. rw (way-right true (λ z. t)) (right-grows true (rec true (place (least r) + 4) widened) e (b .2) (λ z. t) h))
+              (λ u. rw (afresh-right b u)
               (again-grows at xs rec here l (grow r) (k .region) (rw e at (k .spot))
               (omega (arith, insert-depth X R s r)) u (rw e at (again refl))))
           right-way false e b h again =
@@ -504,9 +516,9 @@ module _ {I : Type 0} (A : Axis Mark Box) (f : ℕ → Mark) (R : Register ℕ B
         let rec : Insertion = insert♯ A fuel C place (f s) s in
         rw (insert♯-node K at xs i l r k fuel mends)
         (by-cases (A .below (f s) (f (least r)))
-        (λ e. rw e (left-way K at xs i l r k rec d mends e (mayMend-right mends i l r b)
+        (λ e. rw e (left-way K at xs i l r k rec d mends e b
         (insert-holds K fuel l mends (place (least r)) (widened K at xs i l r k) (left-ready K at xs i l r k) (omega arith) (omega arith)
         (mayMend-left mends i l r b)) again))
-        (λ e. rw e (right-way K at xs i l r k rec d mends e (mayMend-left mends i l r b)
+        (λ e. rw e (right-way K at xs i l r k rec d mends e b
         (insert-holds K fuel r mends (place (least r) + 4) (widened K at xs i l r k) (right-ready K at xs i l r k e) (omega arith) (omega arith)
         (mayMend-right mends i l r b)) again)))

@@ -1,7 +1,7 @@
 -- The strike of a slot that stands in a tree: what it leaves of the tree, and that the mirror of the strike leaves words that hold it. Assumes nothing.
 use Prim.Native.Nat.{ℕ, zero, suc, _+_, _*_, _-_, _/_, _≤_, _<_}
 use mathlib.Core.Path.{_≡_, refl, sym, ap, subst, _∙_}
-use mathlib.Core.Bool.{true, false}
+use mathlib.Core.Bool.{Bool, true, false}
 use mathlib.Core.List.{List, append-nil}
 use mathlib.Core.Option.{Option, none, some}
 use native.Mathlib.Omega.{arith}
@@ -22,7 +22,9 @@ use Rattle.model.proofs.Slots.{slotSpace-sameness, slotAxis-laws}
 use Rattle.model.proofs.Tree.{weight-pos, weight-marks, marks-pos, all-above, left-all-below, rebalance-marks, rebalance-weight}
 use Rattle.model.proofs.Rebalance.{balanced-rebuilt, balanced-rebalance, rebalance-left, rebalance-right, rebuilt-left, rebuilt-right}
 use Rattle.table.proofs.RunSlots.{asSlot-is}
-use Rattle.nodes.specs.Arms.{Record, arms, renamed}
+use Rattle.nodes.specs.Arms.{Record, arms, Way, way, wayOf, renamed, firstLeft}
+use Rattle.nodes.specs.Ways.{wayAt}
+use Rattle.nodes.proofs.Balance.{balanced-swap, balanced-less, heavy-none, way-weight}
 use Rattle.nodes.specs.Holds.{number, armOf, timesIn, times, Held}
 use Rattle.table.specs.After.{After, after}
 use Rattle.nodes.proofs.Unchanged.{unchanged-refl}
@@ -31,8 +33,8 @@ use Rattle.nodes.proofs.Held.{times-node, times-least, held-left, held-right, h
 use Rattle.nodes.proofs.Without.{without, without-append, without-none}
 use Rattle.secondary_build.proofs.Building.{rebuild-holds}
 use Rattle.secondary_update.specs.Updates.{Strike, strikeOf}
-use Rattle.secondary_update.specs.Strike.{Striking, ifStruck, strikeOver, freshStrike, strikeAfresh}
-use Rattle.secondary_update.specs.Strike.{strikeLeft, strikeRight, strikeRecord, strikeNode, strike♯}
+use Rattle.secondary_update.specs.Strike.{Striking, nodeOver, strikeOver, freshStrike, strikeAfresh}
+use Rattle.secondary_update.specs.Strike.{strikeHere, strikeChild, strikeWay, strikeNode, strike♯}
 use Rattle.secondary_update.proofs.Node.{over-left, over-right}
 
 -- a slot that would be below itself, were it s, is not s
@@ -211,44 +213,46 @@ module _ {I : Type 0} (A : Axis Mark Box) (f : ℕ → Mark) (R : Register ℕ B
       → strike♯ A (suc n) C place (f s) s (weight l + weight r) (2 * least r + 1) xs
       ≡ (let rec : Striking = strike♯ A n C place (f s) s in
       let p : Record = arms (armOf A f l) (armOf A f r) in
-      if A .below (f s) (f (least r)) then strikeLeft A rec C place s (least r) p (weight l + weight r) (2 * least r + 1) xs
-      else strikeRight A rec C place s (least r) p (weight l + weight r) (2 * least r + 1) xs)
-  unfolding strike♯ strikeNode strikeRecord
+      strikeChild A rec C place s (least r) (wayOf p (A .below (f s) (f (least r)))) (weight l + weight r) (2 * least r + 1) xs)
+  unfolding strike♯ strikeNode strikeWay wayAt
   strike♯-node n i l r xs h =
       let half : (2 * least r + 1) / 2 ≡ least r = omega arith in
-      let w : eqb (weight l + weight r) (weight l + weight r) ≡ true = eq-eqb (weight l + weight r) (weight l + weight r) refl in
+      let p : Record = arms (armOf A f l) (armOf A f r) in
+      let left : Bool = A .below (f s) (f (least r)) in
+      let v : Way = wayOf p left in
+      let w = eq-eqb (v .child .weight + v .sibling .weight) (weight l + weight r) (way-weight p left) in
       rw (
         half,
         lt-leb C (least r) (held-least (held-right h)),
         h .records .0,
-        w,
         h .marked (least r) (omega (arith, times-node (least r) i l r, times-least r)),
+        w,
       )
 
   -- the slot's leaf is the node's left, or right, child
   left-goes : (rec : Striking) (i : I) (r : Tree ℕ I) (xs : List ℕ) → Held A f place C xs (node i (leaf s) r) → Balanced (node i (leaf s) r)
       → LeavesStruck xs (node i (leaf s) r) r
-      (strikeLeft A rec C place s (least r) (arms (armOf {I = I} A f (leaf s)) (armOf A f r)) (1 + weight r) (2 * least r + 1) xs)
-  unfolding strikeLeft
-  left-goes rec i r xs h b = stays xs (node i (leaf s) r) r (least r) (held-right h) (b .3) (λ e. refl)
+      (strikeChild A rec C place s (least r) (way true (armOf {I = I} A f (leaf s)) (armOf A f r)) (1 + weight r) (2 * least r + 1) xs)
+  unfolding strikeChild strikeHere firstLeft
+  left-goes rec i r xs h b =
+      rw (heavy-none (weight r) (weight-pos r)) (stays xs (node i (leaf s) r) r (least r) (held-right h) (b .3) (λ e. refl))
 
   right-goes : (rec : Striking) (i : I) (l : Tree ℕ I) (xs : List ℕ) → Held A f place C xs (node i l (leaf s)) → Balanced (node i l (leaf s))
       → LeavesStruck xs (node i l (leaf s)) l
-      (strikeRight A rec C place s s (arms (armOf A f l) (armOf {I = I} A f (leaf s))) (weight l + 1) (2 * s + 1) xs)
-  unfolding strikeRight
+      (strikeChild A rec C place s s (way false (armOf {I = I} A f (leaf s)) (armOf A f l)) (weight l + 1) (2 * s + 1) xs)
+  unfolding strikeChild strikeHere firstLeft
   right-goes rec i l xs h b =
-      stays xs (node i l (leaf s)) l 0 (held-left h) (b .2) (λ e. absurd (apart-least i l (leaf s) s (h .once) (times-least {I = I} (leaf s)) e))
+      rw (heavy-none (weight l) (weight-pos l))
+      (stays xs (node i l (leaf s)) l 0 (held-left h) (b .2) (λ e. absurd (apart-least i l (leaf s) s (h .once) (times-least {I = I} (leaf s)) e)))
 
   module _ (xs : List ℕ) (g : Region place C (length xs)) (rec : Striking) (i : I) (l r : Tree ℕ I) (h : Held A f place C xs (node i l r))
       (b : Balanced (node i l r)) (deep : depth (node i l r) < 40) where
-    abbrev both : Record
-    both = arms (armOf A f l) (armOf A f r)
-
+    -- the mirror strikes the left child, or the right one
     abbrev lefts : After Strike
-    lefts = strikeLeft A rec C place s (least r) both (weight l + weight r) (2 * least r + 1) xs
+    lefts = strikeChild A rec C place s (least r) (way true (armOf A f l) (armOf A f r)) (weight l + weight r) (2 * least r + 1) xs
 
     abbrev rights : After Strike
-    rights = strikeRight A rec C place s (least r) both (weight l + weight r) (2 * least r + 1) xs
+    rights = strikeChild A rec C place s (least r) (way false (armOf A f r) (armOf A f l)) (weight l + weight r) (2 * least r + 1) xs
 
     node-apart : (z : ℕ) → times z l + times z r ≤ 1
     node-apart z = omega (arith, h .once z, times-node z i l r)
@@ -256,18 +260,17 @@ module _ {I : Type 0} (A : Axis Mark Box) (f : ℕ → Mark) (R : Register ℕ B
     -- the slot stands deeper on the left, and the node will be even
     left-even : (l′ : Tree ℕ I) → Strikes A f s R l l′ → evenly l′ r ≡ true → LeavesStruck xs l l′ (rec (weight l) (number l) xs)
         → LeavesStruck xs (node i l r) (node (R .strike s i) l′ r) lefts
-    unfolding strikeLeft ifStruck strikeOver strikeOf
+    unfolding strikeChild strikeOver nodeOver strikeOf
     left-even l′ k even q =
         let j : I = R .strike s i in
         let p : After Strike = rec (weight l) (number l) xs in
         let m : Tree ℕ I = rebalance X R l′ in
         let w = strikes-weight A f s R k in
-        let many : eqb (weight l) 1 ≡ false = ne-eqb (weight l) 1 (omega (arith, weight-pos l′)) in
         let less : weight l - 1 ≡ weight l′ = omega arith in
         let one : p .out .arm .weight ≡ weight l′ = ap (λ a. a .weight) (q .leaves .is) ∙ rebalance-weight X R l′ in
         let same : ((z : ℕ) → times z m ≡ times z l′) = λ z. ap (timesIn z) (rebalance-marks X R l′) in
         let apart : ((z : ℕ) → times z m + times z r ≤ 1) = λ z. omega (arith, same z, node-apart z, strikes-times A f s R k z) in
-        rw (many, less, even, eq-eqb (p .out .arm .weight) (weight l′) one, q .leaves .is) record {
+        rw (less, ← balanced-less (weight l) (weight r) (weight l′) (b .1) w, even, eq-eqb (p .out .arm .weight) (weight l′) one, q .leaves .is) record {
           leaves = rw (rebalance-left X R j l′ r (b .3), even) (over-left A f j m r g apart (q .leaves) (held-right h));
           figure = rw (rebuilt-left j l′ r (b .3), even) (q .figure);
           first = q .first;
@@ -276,13 +279,12 @@ module _ {I : Type 0} (A : Axis Mark Box) (f : ℕ → Mark) (R : Register ℕ B
     -- or on the right
     right-even : (r′ : Tree ℕ I) → Strikes A f s R r r′ → evenly l r′ ≡ true → LeavesStruck xs r r′ (rec (weight r) (number r) xs)
         → LeavesStruck xs (node i l r) (node (R .strike s i) l r′) rights
-    unfolding strikeRight ifStruck strikeOver strikeOf
+    unfolding strikeChild strikeOver nodeOver strikeOf
     right-even r′ k even q =
         let j : I = R .strike s i in
         let p : After Strike = rec (weight r) (number r) xs in
         let m : Tree ℕ I = rebalance X R r′ in
         let w = strikes-weight A f s R k in
-        let many : eqb (weight r) 1 ≡ false = ne-eqb (weight r) 1 (omega (arith, weight-pos r′)) in
         let less : weight r - 1 ≡ weight r′ = omega arith in
         let one : p .out .arm .weight ≡ weight r′ = ap (λ a. a .weight) (q .leaves .is) ∙ rebalance-weight X R r′ in
         let same : ((z : ℕ) → times z m ≡ times z r′) = λ z. ap (timesIn z) (rebalance-marks X R r′) in
@@ -290,7 +292,15 @@ module _ {I : Type 0} (A : Axis Mark Box) (f : ℕ → Mark) (R : Register ℕ B
         let least-m : least m ≡ least r′ = least-marks m r′ (rebalance-marks X R r′) in
         let inC : least r′ < C = rw (← least-m) (held-least (q .leaves .held)) in
         let named : renamed C (least r) s (p .out .first) ≡ least m = renamed-least r r′ (p .out .first) k inC (q .first) ∙ sym least-m in
-        rw (many, less, even, eq-eqb (p .out .arm .weight) (weight r′) one, q .leaves .is, named) record {
+        rw (
+          less,
+          ← balanced-less (weight r) (weight l) (weight r′) (omega (arith, b .0)) w,
+          balanced-swap (weight r′) (weight l),
+          even,
+          eq-eqb (p .out .arm .weight) (weight r′) one,
+          q .leaves .is,
+          named,
+        ) record {
           leaves = rw (rebalance-right X R j l r′ (b .2), even) (over-right A f j l m g apart (held-left h) (q .leaves));
           figure = rw (rebuilt-right j l r′ (b .2), even) (q .figure);
           first = λ e. absurd (apart-least i l r s (h .once) (strikes-in A f s R k) e);
@@ -299,25 +309,25 @@ module _ {I : Type 0} (A : Axis Mark Box) (f : ℕ → Mark) (R : Register ℕ B
     -- the node will not be even
     left-uneven : (l′ : Tree ℕ I) → A .below (f s) (f (least r)) ≡ true → Strikes A f s R l l′ → evenly l′ r ≡ false
         → LeavesStruck xs (node i l r) (node (R .strike s i) l′ r) lefts
-    unfolding strikeLeft
+    unfolding strikeChild strikeHere
     left-uneven l′ e k uneven =
         let j : I = R .strike s i in
         let w = strikes-weight A f s R k in
         let many : eqb (weight l) 1 ≡ false = ne-eqb (weight l) 1 (omega (arith, weight-pos l′)) in
         let less : weight l - 1 ≡ weight l′ = omega arith in
-        rw (many, less, uneven)
+        rw (less, ← balanced-less (weight l) (weight r) (weight l′) (b .1) w, uneven, many)
         (afresh-holds (least l′) (node i l r) (node j l′ r) xs (inLeft e k) g h deep
         (rw (rebalance-left X R j l′ r (b .3), uneven)) (rw (rebuilt-left j l′ r (b .3), uneven)))
 
     right-uneven : (r′ : Tree ℕ I) → A .below (f s) (f (least r)) ≡ false → Strikes A f s R r r′ → evenly l r′ ≡ false
         → LeavesStruck xs (node i l r) (node (R .strike s i) l r′) rights
-    unfolding strikeRight
+    unfolding strikeChild strikeHere
     right-uneven r′ e k uneven =
         let j : I = R .strike s i in
         let w = strikes-weight A f s R k in
         let many : eqb (weight r) 1 ≡ false = ne-eqb (weight r) 1 (omega (arith, weight-pos r′)) in
         let less : weight r - 1 ≡ weight r′ = omega arith in
-        rw (many, less, uneven)
+        rw (less, ← balanced-less (weight r) (weight l) (weight r′) (omega (arith, b .0)) w, balanced-swap (weight r′) (weight l), uneven, many)
         (afresh-holds (least l) (node i l r) (node j l r′) xs (inRight e k) g h deep
         (rw (rebalance-right X R j l r′ (b .2), uneven)) (rw (rebuilt-right j l r′ (b .2), uneven)))
 
@@ -325,6 +335,7 @@ module _ {I : Type 0} (A : Axis Mark Box) (f : ℕ → Mark) (R : Register ℕ B
     -- along the way
     strikes-holds : (n : ℕ) {t t′ : Tree ℕ I} → Strikes A f s R t t′ → Held A f place C xs t → Balanced t → depth t < n → depth t < 40
         → LeavesStruck xs t t′ (strike♯ A n C place (f s) s (weight t) (number t) xs)
+    unfolding wayOf
     strikes-holds zero k h b d deep = absurd (omega arith)
     strikes-holds (suc n) (leftGoes {i = i} {r = r} e) h b d deep =
         rw (strike♯-node n i (leaf s) r xs h, e) (left-goes (strike♯ A n C place (f s) s) i r xs h b)

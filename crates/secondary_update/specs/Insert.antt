@@ -12,8 +12,9 @@ use Rattle.model.specs.Sheet.{Mark, Box, alongY}
 use Rattle.table.specs.Layout.{armWidth, runsEnd, levelEnd, auxiliaryPlace, recordPlace}
 use Rattle.table.specs.Limits.{deepest, damaged, noSlot}
 use Rattle.table.specs.Marks.{slotMark}
-use Rattle.nodes.specs.Arms.{Arm, Record, leafArm, overArm, grownArm, armAt, putArm, recordAt, putRecord, childAt}
-use Rattle.nodes.specs.Weights.{sum, balanced, unbalances}
+use Rattle.nodes.specs.Arms.{Arm, Way, leafArm, overArm, grownArm, armAt, putArm, putRecord, childAt}
+use Rattle.nodes.specs.Ways.{wayAt}
+use Rattle.nodes.specs.Weights.{unbalances}
 use Rattle.table.specs.After.{After, after}
 use Rattle.secondary_build.specs.Build.{rebuild♯}
 
@@ -36,6 +37,11 @@ rebuiltAt A capacity place at a xs = putFresh at (a .weight) (rebuild♯ A place
 unfoldable pub afresh♯ : Axis Mark Box → ℕ → (ℕ → ℕ) → ℕ → ℕ → List ℕ → After ℕ
 afresh♯ A capacity place at done xs = if eqb done damaged then after damaged xs else rebuiltAt A capacity place at (armAt xs at) xs
 
+-- what is left to do once the mark is in: nothing where mending is still asked, else the tree at `top` is built afresh
+abbrev pub ended : ℕ → ℕ → Bool → ℕ → After ℕ → After ℕ
+ended base capacity true top p = p
+ended base capacity false top p = afresh♯ alongY capacity (recordPlace base) top (p .out) (p .words)
+
 -- whether to mend, where the arm stands, and the words
 abbrev pub Insertion : Type 0
 Insertion = Bool → ℕ → List ℕ → After ℕ
@@ -43,22 +49,23 @@ Insertion = Bool → ℕ → List ℕ → After ℕ
 unfoldable pub insertAfresh : Axis Mark Box → Insertion → ℕ → (ℕ → ℕ) → ℕ → List ℕ → After ℕ
 insertAfresh A rec capacity place at xs = let p : After ℕ = rec false at xs in afresh♯ A capacity place at (p .out) (p .words)
 
-unfoldable pub insertWay : Axis Mark Box → Insertion → ℕ → (ℕ → ℕ) → Mark → ℕ → Bool → Record → Bool → ℕ → Arm → List ℕ → After ℕ
-insertWay A rec capacity place m name left p mends at a xs =
-    if unbalances mends left (p .left .weight) (p .right .weight) then insertAfresh A rec capacity place at xs
-    else rec mends (childAt (place name) left) (putArm xs at (grownArm a (A .at m)))
+unfoldable pub insertChild : Axis Mark Box → Insertion → ℕ → (ℕ → ℕ) → Mark → ℕ → Way → Bool → ℕ → Arm → List ℕ → After ℕ
+insertChild A rec capacity place m name v mends at a xs =
+    if unbalances mends (v .child .weight) (v .sibling .weight) then insertAfresh A rec capacity place at xs
+    else rec mends (childAt (place name) (v .left)) (putArm xs at (grownArm a (A .at m)))
 
-unfoldable pub insertRecord : Axis Mark Box → Insertion → ℕ → (ℕ → ℕ) → Mark → ℕ → Record → Bool → ℕ → Arm → List ℕ → After ℕ
-insertRecord A rec capacity place m name p mends at a xs =
-    if not (eqb (p .left .weight + p .right .weight) (a .weight)) then after damaged xs
-    else insertWay A rec capacity place m name (A .below m (slotMark xs name)) p mends at a xs
+-- children whose weights are not the node's are damage
+unfoldable pub insertWay : Axis Mark Box → Insertion → ℕ → (ℕ → ℕ) → Mark → ℕ → Way → Bool → ℕ → Arm → List ℕ → After ℕ
+insertWay A rec capacity place m name v mends at a xs =
+    if not (eqb (v .child .weight + v .sibling .weight) (a .weight)) then after damaged xs
+    else insertChild A rec capacity place m name v mends at a xs
 
 -- a node of no slot is damage
 unfoldable pub insertArm : Axis Mark Box → Insertion → ℕ → (ℕ → ℕ) → Mark → ℕ → Bool → ℕ → Arm → List ℕ → After ℕ
 insertArm A rec capacity place m s mends at a xs =
     if leb capacity (a .node / 2) then after damaged xs
     else (if eqb (a .node % 2) 0 then after 0 (split♯ A place m s at a xs)
-    else insertRecord A rec capacity place m (a .node / 2) (recordAt xs (place (a .node / 2))) mends at a xs)
+    else insertWay A rec capacity place m (a .node / 2) (wayAt A place m (a .node / 2) xs) mends at a xs)
 
 unfoldable pub insertNode : Axis Mark Box → Insertion → ℕ → (ℕ → ℕ) → Mark → ℕ → Insertion
 insertNode A rec capacity place m s mends at xs = insertArm A rec capacity place m s mends at (armAt xs at) xs

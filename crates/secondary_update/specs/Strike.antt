@@ -11,10 +11,10 @@ use Rattle.model.specs.Axis.{Axis}
 use Rattle.model.specs.Sheet.{Mark, Box, alongY}
 use Rattle.table.specs.Layout.{auxiliaryPlace, recordPlace, levelEnd}
 use Rattle.table.specs.Limits.{deepest}
-use Rattle.table.specs.Marks.{slotMark}
 use Rattle.table.specs.Runs.{runSlot}
-use Rattle.nodes.specs.Arms.{Arm, Record, overArm, armAt, recordAt, putRecord, renamed}
-use Rattle.nodes.specs.Weights.{balanced}
+use Rattle.nodes.specs.Arms.{Arm, Way, overArm, armAt, putRecord, renamed, firstLeft}
+use Rattle.nodes.specs.Ways.{wayAt}
+use Rattle.nodes.specs.Weights.{isHeavy}
 use Rattle.table.specs.After.{After, after}
 use Rattle.secondary_build.specs.Build.{rebuild♯}
 use Rattle.secondary_update.specs.Updates.{Strike, strikeOf, noStrike}
@@ -23,13 +23,19 @@ use Rattle.secondary_update.specs.Updates.{Strike, strikeOf, noStrike}
 abbrev pub Striking : Type 0
 Striking = ℕ → ℕ → List ℕ → After Strike
 
--- a node is written over what is left of a child, where that has the w marks that it is to have
-unfoldable pub ifStruck : ℕ → After Strike → (Arm → ℕ → ℕ → List ℕ → After Strike) → After Strike
-ifStruck w p next =
-    if eqb (p .out .arm .weight) w then next (p .out .arm) (p .out .rebuilt) (p .out .first) (p .words) else after noStrike (p .words)
+-- the node of a name is written over two children; the figure and the least slot come with it
+abbrev pub Writing : Type 0
+Writing = ℕ → Arm → Arm → ℕ → ℕ → List ℕ → After Strike
 
-unfoldable pub strikeOver : (ℕ → ℕ) → ℕ → Arm → Arm → ℕ → ℕ → List ℕ → After Strike
-strikeOver place name l r rebuilt first xs = after (strikeOf (overArm name l r) rebuilt first) (putRecord xs (place name) l r)
+unfoldable pub nodeOver : (ℕ → ℕ) → Writing
+nodeOver place name l r rebuilt first xs = after (strikeOf (overArm name l r) rebuilt first) (putRecord xs (place name) l r)
+
+-- over what the strike left of the child on the mark's way, where that has lost one mark, and the other child
+unfoldable pub strikeOver : Writing → ℕ → ℕ → ℕ → Way → After Strike → After Strike
+strikeOver over capacity s name v p =
+    if not (eqb (p .out .arm .weight) (v .child .weight - 1)) then after noStrike (p .words)
+    else (if v .left then over name (p .out .arm) (v .sibling) (p .out .rebuilt) (p .out .first) (p .words)
+    else over (renamed capacity name s (p .out .first)) (v .sibling) (p .out .arm) (p .out .rebuilt) 0 (p .words))
 
 -- a tree of w marks built afresh without the slot s: the slots left stand in run A
 unfoldable pub freshStrike : ℕ → ℕ → After Arm → After Strike
@@ -38,31 +44,28 @@ freshStrike capacity w p = after (strikeOf (p .out) (w - 1) (runSlot capacity 0 
 unfoldable pub strikeAfresh : Axis Mark Box → ℕ → (ℕ → ℕ) → ℕ → Striking
 strikeAfresh A capacity place s w n xs = freshStrike capacity w (rebuild♯ A place capacity s (w - 1) w n xs)
 
-unfoldable pub strikeLeft : Axis Mark Box → Striking → ℕ → (ℕ → ℕ) → ℕ → ℕ → Record → Striking
-strikeLeft A rec capacity place s name p w n xs =
-    if eqb (p .left .weight) 1 then after (strikeOf (p .right) 0 name) xs
-    else (if balanced (p .left .weight - 1) (p .right .weight)
-    then ifStruck (p .left .weight - 1) (rec (p .left .weight) (p .left .node) xs) (λ c rebuilt first ws. strikeOver place name c (p .right) rebuilt first ws)
-    else strikeAfresh A capacity place s w n xs)
+-- a node that is not balanced with one mark less: the struck leaf's sibling takes its place, or it is built afresh
+unfoldable pub strikeHere : Axis Mark Box → ℕ → (ℕ → ℕ) → ℕ → ℕ → Way → Striking
+strikeHere A capacity place s name v w n xs =
+    if eqb (v .child .weight) 1 then after (strikeOf (v .sibling) 0 (firstLeft (v .left) name)) xs else strikeAfresh A capacity place s w n xs
 
-unfoldable pub strikeRight : Axis Mark Box → Striking → ℕ → (ℕ → ℕ) → ℕ → ℕ → Record → Striking
-strikeRight A rec capacity place s name p w n xs =
-    if eqb (p .right .weight) 1 then after (strikeOf (p .left) 0 0) xs
-    else (if balanced (p .left .weight) (p .right .weight - 1)
-    then ifStruck (p .right .weight - 1) (rec (p .right .weight) (p .right .node) xs)
-    (λ c rebuilt first ws. strikeOver place (renamed capacity name s first) (p .left) c rebuilt 0 ws)
-    else strikeAfresh A capacity place s w n xs)
+-- the child on the mark's way is struck, or the node itself
+unfoldable pub strikeChild : Axis Mark Box → Striking → ℕ → (ℕ → ℕ) → ℕ → ℕ → Way → Striking
+strikeChild A rec capacity place s name v w n xs =
+    if isHeavy (v .child .weight - 1) (v .sibling .weight)
+    then strikeOver (nodeOver place) capacity s name v (rec (v .child .weight) (v .child .node) xs)
+    else strikeHere A capacity place s name v w n xs
 
-unfoldable pub strikeRecord : Axis Mark Box → Striking → ℕ → (ℕ → ℕ) → Mark → ℕ → ℕ → Record → Striking
-strikeRecord A rec capacity place m s name p w n xs =
-    if not (eqb (p .left .weight + p .right .weight) w) then after noStrike xs
-    else (if A .below m (slotMark xs name) then strikeLeft A rec capacity place s name p w n xs else strikeRight A rec capacity place s name p w n xs)
+-- children whose weights are not the node's are damage
+unfoldable pub strikeWay : Axis Mark Box → Striking → ℕ → (ℕ → ℕ) → ℕ → ℕ → Way → Striking
+strikeWay A rec capacity place s name v w n xs =
+    if not (eqb (v .child .weight + v .sibling .weight) w) then after noStrike xs else strikeChild A rec capacity place s name v w n xs
 
 -- a node of no slot is damage
 unfoldable pub strikeNode : Axis Mark Box → Striking → ℕ → (ℕ → ℕ) → Mark → ℕ → Striking
 strikeNode A rec capacity place m s w n xs =
     if leb capacity (n / 2) then after noStrike xs
-    else strikeRecord A rec capacity place m s (n / 2) (recordAt xs (place (n / 2))) w n xs
+    else strikeWay A rec capacity place s (n / 2) (wayAt A place m (n / 2) xs) w n xs
 
 unfoldable pub strike♯ : Axis Mark Box → ℕ → ℕ → (ℕ → ℕ) → Mark → ℕ → Striking
 strike♯ A zero capacity place m s w n xs = after noStrike xs

@@ -9,13 +9,12 @@ ghost use Rattle.table.specs.After.{after};
 ghost use Rattle.table.specs.Layout.{armWidth, recordPlace, runsEnd, levelEnd};
 ghost use Rattle.table.specs.Limits.{deepest};
 ghost use Rattle.nodes.specs.Values.{secondaryArm};
-ghost use Rattle.secondary_update.specs.Insert.{split♯, afresh♯, There, insert♯, auxiliaryInsert♯};
+ghost use Rattle.secondary_update.specs.Insert.{split♯, afresh♯, ended, There, insert♯, auxiliaryInsert♯};
 use geometry::Mark;
 use nodes::primary::PrimaryRecord;
 use nodes::secondary::SecondaryArm;
 use nodes::secondary::SecondaryRecord;
 use nodes::weights;
-use table::layout;
 use table::limits;
 use table::slots;
 
@@ -61,6 +60,29 @@ fn afresh(t: &mut [u32], base: u32, capacity: u32, at: usize, done: u32) -> u32
     a.weight
 }
 
+// Makes a node of a leaf and the mark m of slot s, and builds the tree at `top` afresh where that waits for the mark; gives its weight, or 0.
+fn insert_at_leaf(
+    t: &mut [u32],
+    base: u32,
+    capacity: u32,
+    at: usize,
+    q: SecondaryArm,
+    m: Mark,
+    s: u32,
+    mends: bool,
+    top: usize,
+) -> u32
+    requires { ⌜ (secondaryArm q .node / 2 < capacity) × (s < capacity) × (top + armWidth ≤ length (now t)) × There base capacity at (now t) ⌝ }
+    ensures { λ r. ⌜ after r (now (t .exit))
+        ≡ ended base capacity mends top (after 0 (split♯ alongY (recordPlace base) (markValue m) s at (secondaryArm q) (now (t .entry)))) ⌝ }
+{
+    split(t, base, capacity, at, q, m, s);
+    if mends {
+        return 0;
+    }
+    afresh(t, base, capacity, top, 0)
+}
+
 // Inserts the mark m of slot s beneath the arm at the word `start`, where that arm and every record and mark of a slot below the capacity are there. The
 // unbalanced node nearest the root is built afresh once the mark is in: from there on nothing is mended. A node of no slot is damage.
 fn insert_beneath(t: &mut [u32], base: u32, capacity: u32, start: usize, m: Mark, s: u32) -> u32
@@ -80,34 +102,18 @@ fn insert_beneath(t: &mut [u32], base: u32, capacity: u32, start: usize, m: Mark
             return limits::DAMAGED;
         }
         if node.is_leaf() {
-            split(t, base, capacity, at, a, m, s);
-            if mends {
-                return 0;
-            }
-            return afresh(t, base, capacity, top, 0);
+            return insert_at_leaf(t, base, capacity, at, a, m, s, mends, top);
         }
-        let p = SecondaryRecord::load(t, base, name);
-        let l = p.left;
-        let r = p.right;
-        if weights::disagree(l.weight, r.weight, a.weight) {
+        let fork = SecondaryRecord::fork(t, base, name, m);
+        if weights::disagree(fork.child, fork.sibling, a.weight) {
             return limits::DAMAGED;
         }
-        if m.below_y(slots::load(t, name)) {
-            if weights::unbalances(mends, true, l.weight, r.weight) {
-                mends = false;
-                top = at;
-            } else {
-                SecondaryArm::store(t, at, a.grown(m.y));
-                at = SecondaryRecord::child(base, name, true);
-            }
+        if weights::unbalances(mends, fork.child, fork.sibling) {
+            mends = false;
+            top = at;
         } else {
-            if weights::unbalances(mends, false, l.weight, r.weight) {
-                mends = false;
-                top = at;
-            } else {
-                SecondaryArm::store(t, at, a.grown(m.y));
-                at = SecondaryRecord::child(base, name, false);
-            }
+            SecondaryArm::store(t, at, a.grown(m.y));
+            at = SecondaryRecord::child(base, name, fork.left);
         }
     }
     limits::DAMAGED
@@ -119,7 +125,7 @@ pub fn insert(t: &mut [u32], base: u32, capacity: u32, owner: u32, m: Mark, s: u
     requires { ⌜ (s < capacity) × (owner < capacity) × (runsEnd capacity ≤ length (now t)) ⌝ }
     ensures { λ r. ⌜ after r (now (t .exit)) ≡ auxiliaryInsert♯ base capacity (markValue m) s owner (now (t .entry)) ⌝ }
 {
-    if t.len() < (base as usize) + layout::RECORD * (capacity as usize) {
+    if SecondaryRecord::lacks_level(t, base, capacity) {
         return limits::DAMAGED;
     }
     insert_beneath(

@@ -6,8 +6,8 @@ ghost use Rattle.model.specs.Sheet.{alongY};
 ghost use Rattle.geometry.specs.Values.{markValue};
 ghost use Rattle.table.specs.After.{after};
 ghost use Rattle.table.specs.Layout.{recordWidth, recordPlace, runsEnd, levelEnd};
-ghost use Rattle.nodes.specs.Values.{secondaryArm};
-ghost use Rattle.secondary_update.specs.Strike.{strikeOver, strikeAfresh, strike♯, auxiliaryStrike♯};
+ghost use Rattle.nodes.specs.Values.{secondaryArm, secondaryWay};
+ghost use Rattle.secondary_update.specs.Strike.{nodeOver, strikeOver, strikeAfresh, strikeHere, strike♯, auxiliaryStrike♯};
 ghost use Rattle.secondary_update.specs.Updates.{strikeOf, noStrike};
 ghost use Rattle.secondary_update.specs.Values.{struckValue};
 use geometry::Mark;
@@ -16,11 +16,10 @@ use nodes::primary::PrimaryRecord;
 use nodes::secondary::Secondary;
 use nodes::secondary::SecondaryArm;
 use nodes::secondary::SecondaryRecord;
+use nodes::secondary::SecondaryWay;
 use nodes::weights;
-use table::layout;
 use table::limits;
 use table::runs;
-use table::slots;
 
 // What a strike leaves of a tree: its arm, the weight of the node built afresh, or 0, and its least slot where the struck one was the least. Weight 0 of the
 // arm: the words hold no tree.
@@ -52,7 +51,7 @@ fn damaged() -> Struck
 }
 
 // Writes the node of that name over l and r.
-fn strike_over(
+fn node_over(
     t: &mut [u32],
     base: u32,
     name: u32,
@@ -63,10 +62,37 @@ fn strike_over(
 ) -> Struck
     requires { ⌜ recordPlace base name + recordWidth ≤ length (now t) ⌝ }
     ensures { λ u. ⌜ after (struckValue u) (now (t .exit))
-        ≡ strikeOver (recordPlace base) name (secondaryArm l) (secondaryArm r) rebuilt first (now (t .entry)) ⌝ }
+        ≡ nodeOver (recordPlace base) name (secondaryArm l) (secondaryArm r) rebuilt first (now (t .entry)) ⌝ }
 {
     SecondaryRecord::store(t, base, name, l, r);
     answer(SecondaryArm::over(name, l, r), rebuilt, first)
+}
+
+// Writes the node over what the strike left of the child on the mark's way, which is to have lost one mark, and the other child.
+fn strike_over(
+    t: &mut [u32],
+    base: u32,
+    capacity: u32,
+    name: u32,
+    s: u32,
+    v: SecondaryWay,
+    u: Struck,
+) -> Struck
+    requires { ⌜ (name < capacity) × (levelEnd base capacity ≤ length (now t)) ⌝ }
+    ensures { λ r. ⌜ after (struckValue r) (now (t .exit))
+        ≡ strikeOver (nodeOver (recordPlace base)) capacity s name (secondaryWay v) (after (struckValue u) (now (t .entry))) ⌝ }
+{
+    let struck = u.arm;
+    let child = v.child;
+    let sibling = v.sibling;
+    if struck.weight == weights::fewer(child.weight) {
+        if v.left {
+            return node_over(t, base, name, struck, sibling, u.rebuilt, u.first);
+        }
+        let named = arm::renamed(capacity, name, s, u.first);
+        return node_over(t, base, named, sibling, struck, u.rebuilt, 0);
+    }
+    damaged()
 }
 
 // Builds the tree of a node of that weight afresh without the slot s.
@@ -85,6 +111,29 @@ fn strike_afresh(
     let fresh = secondary_build::build::rebuild(t, base, capacity, node, weight, s, many);
     let first = runs::run_slot(t, capacity, 0);
     answer(fresh, many, first)
+}
+
+// Strikes at a node that is not balanced with one mark less: the struck leaf's sibling takes its place, or it is built afresh without the slot s.
+fn strike_here(
+    t: &mut [u32],
+    base: u32,
+    capacity: u32,
+    node: Secondary,
+    weight: u32,
+    name: u32,
+    v: SecondaryWay,
+    s: u32,
+) -> Struck
+    requires { ⌜ (0 < capacity) × (runsEnd capacity ≤ length (now t)) × (levelEnd base capacity ≤ length (now t)) ⌝ }
+    ensures { λ u. ⌜ after (struckValue u) (now (t .exit))
+        ≡ strikeHere alongY capacity (recordPlace base) s name (secondaryWay v) weight (node .0) (now (t .entry)) ⌝ }
+{
+    let child = v.child;
+    let sibling = v.sibling;
+    if child.weight == 1 {
+        return answer(sibling, 0, arm::first_left(v.left, name));
+    }
+    strike_afresh(t, base, capacity, node, weight, s)
 }
 
 // Strikes the mark m of slot s beneath an inner node of that number and weight. A node of no slot is damage, and so is a child that does not lose one mark.
@@ -109,41 +158,17 @@ fn strike_beneath(
     if capacity <= name {
         return damaged();
     }
-    let p = SecondaryRecord::load(t, base, name);
-    let l = p.left;
-    let r = p.right;
-    if weights::disagree(l.weight, r.weight, weight) {
+    let v = SecondaryRecord::way(t, base, name, m);
+    let child = v.child;
+    let sibling = v.sibling;
+    if weights::disagree(child.weight, sibling.weight, weight) {
         return damaged();
     }
-    if m.below_y(slots::load(t, name)) {
-        if l.weight == 1 {
-            return answer(r, 0, name);
-        }
-        let less = weights::fewer(l.weight);
-        if weights::balanced(less, r.weight) {
-            let u = strike_beneath(t, base, capacity, l.node, l.weight, m, s, fuel - 1);
-            let c = u.arm;
-            if c.weight == less {
-                return strike_over(t, base, name, c, r, u.rebuilt, u.first);
-            }
-            return damaged();
-        }
-        return strike_afresh(t, base, capacity, node, weight, s);
+    if weights::stays_balanced(child.weight, sibling.weight) {
+        let u = strike_beneath(t, base, capacity, child.node, child.weight, m, s, fuel - 1);
+        return strike_over(t, base, capacity, name, s, v, u);
     }
-    if r.weight == 1 {
-        return answer(l, 0, 0);
-    }
-    let less = weights::fewer(r.weight);
-    if weights::balanced(l.weight, less) {
-        let u = strike_beneath(t, base, capacity, r.node, r.weight, m, s, fuel - 1);
-        let c = u.arm;
-        if c.weight == less {
-            let named = arm::renamed(capacity, name, s, u.first);
-            return strike_over(t, base, named, l, c, u.rebuilt, 0);
-        }
-        return damaged();
-    }
-    strike_afresh(t, base, capacity, node, weight, s)
+    strike_here(t, base, capacity, node, weight, name, v, s)
 }
 
 // Strikes the mark m of slot s from the auxiliary tree of the main node named `owner`, which has two marks or more, in the level whose records begin at
@@ -152,7 +177,7 @@ pub fn strike(t: &mut [u32], base: u32, capacity: u32, owner: u32, m: Mark, s: u
     requires { ⌜ (owner < capacity) × (runsEnd capacity ≤ length (now t)) ⌝ }
     ensures { λ u. ⌜ after (struckValue u) (now (t .exit)) ≡ auxiliaryStrike♯ base capacity (markValue m) s owner (now (t .entry)) ⌝ }
 {
-    if t.len() < (base as usize) + layout::RECORD * (capacity as usize) {
+    if SecondaryRecord::lacks_level(t, base, capacity) {
         return damaged();
     }
     let root = PrimaryRecord::load_auxiliary(t, owner);

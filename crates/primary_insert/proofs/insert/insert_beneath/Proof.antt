@@ -8,7 +8,7 @@ use lib.ListN.{length}
 use Rattle.geometry.specs.Values.{markValue}
 use borrow.Author.Tests.{eq-eqb, ne-eqb, le-leb, lt-leb}
 use Rattle.primary_insert.specs.Insert.{insertBeneath♯, insertBeneath♯-suc, insertBeneath♯-zero}
-use Rattle.primary_insert.specs.Insert.{insertOn, mainInsertArm, mainInsertNode, mainInsertRecord, mainWay}
+use Rattle.primary_insert.specs.Insert.{insertOn, mainInsertArm, mainInsertChild, mainInsertNode, mainInsertWay}
 use borrow.Author.Needs.{needs}
 use Rattle.table.proofs.Fuel.{positive, nothing}
 use Rattle.primary_insert.proofs.Steps.{child-there}
@@ -98,12 +98,14 @@ returns-2 c =
       ← c .before .before .insert-at-leaf .ensures,
     )
 
-load-requires-2 : tie.Need-load-requires-2 Inv-loop μ-loop
-load-requires-2 c κs =
+fork-requires : tie.Need-fork-requires Inv-loop μ-loop
+fork-requires c κs =
     let at-named = c .before .before .before in
     let at-loop = at-named .before .before .before .before .before .before in
-    let at-start = at-loop .before .before in
-    omega (arith, at-loop .loop .inv .0, at-start .pre .3, at-named .if1 .left)
+    let at-start = at-loop .before .before in (
+      omega (arith, at-loop .loop .inv .0, at-start .pre .3, at-named .if1 .left),
+      omega (arith, at-loop .loop .inv .0, at-start .pre .3, at-named .if1 .left),
+    )
 
 disagree-requires : tie.Need-disagree-requires Inv-loop μ-loop
 disagree-requires c κs = search needs
@@ -113,11 +115,11 @@ same-length-3 c = search needs
 
 -- the weights do not add up
 returns-3 : tie.Need-returns-3 Inv-loop μ-loop
-unfolding mainInsertNode mainInsertArm mainInsertRecord
+unfolding mainInsertNode mainInsertArm mainInsertWay
 returns-3 c =
     let at-agree = c .before in
-    let at-record = at-agree .before .before .before in
-    let at-inner = at-record .before .before in
+    let at-fork = at-agree .before in
+    let at-inner = at-fork .before .before in
     let at-leaf = at-inner .before in
     let at-named = at-leaf .before in
     let at-slot = at-named .before in
@@ -132,33 +134,20 @@ returns-3 c =
       lt-leb _ _ (at-named .if1 .left),
       ← at-leaf .is-leaf .ensures,
       at-inner .if2 .left,
-      ← at-record .load2 .ensures,
+      ← at-fork .fork .ensures .1 .0,
+      ← at-fork .fork .ensures .1 .1,
       ← at-agree .disagree .ensures,
       c .if3 .taken,
     )
-
-load-requires-3 : tie.Need-load-requires-3 Inv-loop μ-loop
-load-requires-3 c κs =
-    let at-named = c .before .before .before .before .before .before .before .before .before in
-    let at-loop = at-named .before .before .before .before .before .before in
-    let at-start = at-loop .before .before in
-    omega (arith, at-loop .loop .inv .0, at-start .pre .3, at-named .if1 .left)
-
-below-x-requires : tie.Need-below-x-requires Inv-loop μ-loop
-below-x-requires c κs = search needs
-
-child-requires : tie.Need-child-requires Inv-loop μ-loop
-child-requires c κs = search needs
 
 unbalances-requires : tie.Need-unbalances-requires Inv-loop μ-loop
 unbalances-requires c κs = search needs
 
 insert-afresh-requires : tie.Need-insert-afresh-requires Inv-loop μ-loop
 insert-afresh-requires c κs =
-    let at-mark = c .before .before .before .before .before in
-    let at-record = at-mark .before .before .before .before .before .before in
-    let at-slot = at-record .before .before .before .before .before in
-    let at-loop = at-slot .before .before .before .before .before in
+    let at-agree = c .before .before .before .before in
+    let at-named = at-agree .before .before .before .before .before in
+    let at-loop = at-named .before .before .before .before .before .before in
     let at-start = at-loop .before .before in (
       at-start .pre .0,
       at-loop .loop .inv .1,
@@ -168,25 +157,23 @@ insert-afresh-requires c κs =
 
 same-length-4 : tie.Need-same-length-4 Inv-loop μ-loop
 same-length-4 c =
-    let at-child = c .before .before .before .before .before .before in
-    let at-agree = at-child .before .before .before .before .before in
-    let at-named = at-agree .before .before .before .before .before .before .before in
+    let at-afresh = c .before .before in
+    let at-agree = at-afresh .before .before .before .before .before in
+    let at-named = at-agree .before .before .before .before .before in
     let at-loop = at-named .before .before .before .before .before .before in
-    search (needs, at-loop .loop .inv .0)
+    search (needs, at-loop .loop .inv .0, at-afresh .insert-afresh)
 
 -- the node is built afresh
 returns-4 : tie.Need-returns-4 Inv-loop μ-loop
-unfolding mainInsertNode mainInsertArm mainInsertRecord mainWay insertOn
+unfolding mainInsertNode mainInsertArm mainInsertWay mainInsertChild insertOn
 returns-4 c =
     let at-afresh = c .before .before in
     let at-steady = at-afresh .before .before in
     let at-unbalances = at-steady .before in
-    let at-below = at-unbalances .before .before in
-    let at-mark = at-below .before in
-    let at-agreed = at-mark .before .before in
+    let at-agreed = at-unbalances .before in
     let at-agree = at-agreed .before in
-    let at-record = at-agree .before .before .before in
-    let at-inner = at-record .before .before in
+    let at-fork = at-agree .before in
+    let at-inner = at-fork .before .before in
     let at-leaf = at-inner .before in
     let at-named = at-leaf .before in
     let at-slot = at-named .before in
@@ -201,60 +188,49 @@ returns-4 c =
       lt-leb _ _ (at-named .if1 .left),
       ← at-leaf .is-leaf .ensures,
       at-inner .if2 .left,
-      ← at-record .load2 .ensures,
+      ← at-fork .fork .ensures .1 .0,
+      ← at-fork .fork .ensures .1 .1,
       ← at-agree .disagree .ensures,
       at-agreed .if3 .left,
-      ← at-mark .load3 .ensures,
-      ← at-below .below-x .ensures,
       ← at-unbalances .unbalances .ensures,
       at-steady .if4 .taken,
       ← at-afresh .insert-afresh .ensures,
     )
 
-grown-requires : tie.Need-grown-requires Inv-loop μ-loop
-grown-requires c κs = search needs
-
-store-requires : tie.Need-store-requires Inv-loop μ-loop
-store-requires c κs =
-    let at-mark = c .before .before .before .before .before .before in
-    let at-record = at-mark .before .before .before .before .before .before in
-    let at-slot = at-record .before .before .before .before .before in
-    let at-loop = at-slot .before .before .before .before .before in
-    omega (arith, at-loop .loop .inv .0, at-loop .loop .inv .2)
-
-insert-requires : tie.Need-insert-requires Inv-loop μ-loop
-insert-requires c κs =
-    let at-put = c .before .before .before in
-    let at-agreed = at-put .before .before .before .before .before .before .before .before .before in
-    let at-named = at-agreed .before .before .before .before .before .before .before .before in
+grow-requires : tie.Need-grow-requires Inv-loop μ-loop
+grow-requires c κs =
+    let at-agree = c .before .before .before .before in
+    let at-named = at-agree .before .before .before .before .before in
     let at-loop = at-named .before .before .before .before .before .before in
-    let at-start = at-loop .before .before in
-    (at-start .pre .0, at-named .if1 .left, search (needs, at-loop .loop .inv .0, at-put .store, at-start .pre .3))
+    let at-start = at-loop .before .before in (
+      at-named .if1 .left,
+      (
+        at-start .pre .0,
+        at-loop .loop .inv .1,
+        omega (arith, at-loop .loop .inv .0, at-loop .loop .inv .2),
+        omega (arith, at-loop .loop .inv .0, at-start .pre .3),
+      ),
+    )
 
 same-length-5 : tie.Need-same-length-5 Inv-loop μ-loop
 same-length-5 c =
-    let at-handed = c .before .before .before in
-    let at-steady = at-handed .before .before .before .before .before .before .before in
-    let at-agree = at-steady .before .before .before .before .before .before .before in
-    let at-named = at-agree .before .before .before .before .before .before .before in
+    let at-grown = c .before .before .before in
+    let at-agree = at-grown .before .before .before .before .before in
+    let at-named = at-agree .before .before .before .before .before in
     let at-loop = at-named .before .before .before .before .before .before in
-    search (needs, at-loop .loop .inv .0, at-handed .insert)
+    search (needs, at-loop .loop .inv .0, at-grown .grow)
 
 -- the auxiliary tree is damaged
 returns-5 : tie.Need-returns-5 Inv-loop μ-loop
-unfolding mainInsertNode mainInsertArm mainInsertRecord mainWay insertOn
+unfolding mainInsertNode mainInsertArm mainInsertWay mainInsertChild insertOn
 returns-5 c =
-    let at-handed = c .before .before .before in
-    let at-put = at-handed .before .before .before .before in
-    let at-grown = at-put .before in
+    let at-grown = c .before .before .before in
     let at-steady = at-grown .before .before in
     let at-unbalances = at-steady .before in
-    let at-below = at-unbalances .before .before in
-    let at-mark = at-below .before in
-    let at-agreed = at-mark .before .before in
+    let at-agreed = at-unbalances .before in
     let at-agree = at-agreed .before in
-    let at-record = at-agree .before .before .before in
-    let at-inner = at-record .before .before in
+    let at-fork = at-agree .before in
+    let at-inner = at-fork .before .before in
     let at-leaf = at-inner .before in
     let at-named = at-leaf .before in
     let at-slot = at-named .before in
@@ -269,48 +245,43 @@ returns-5 c =
       lt-leb _ _ (at-named .if1 .left),
       ← at-leaf .is-leaf .ensures,
       at-inner .if2 .left,
-      ← at-record .load2 .ensures,
+      ← at-fork .fork .ensures .1 .0,
+      ← at-fork .fork .ensures .1 .1,
       ← at-agree .disagree .ensures,
       at-agreed .if3 .left,
-      ← at-mark .load3 .ensures,
-      ← at-below .below-x .ensures,
       ← at-unbalances .unbalances .ensures,
       at-steady .if4 .left,
-      ← at-grown .grown .ensures,
-      ← at-put .store .ensures,
-      ← at-handed .insert .ensures,
+      ← at-grown .grow .ensures,
       eq-eqb _ _ (c .if5 .taken),
     )
 
 deeper-requires : tie.Need-deeper-requires Inv-loop μ-loop
 deeper-requires c κs = search needs
 
+child-requires : tie.Need-child-requires Inv-loop μ-loop
+child-requires c κs = search needs
+
 loop-less : tie.Need-loop-less Inv-loop μ-loop
 loop-less c =
-    let at-handed = c .before .before .before .before in
-    let at-steady = at-handed .before .before .before .before .before .before .before in
-    let at-mark = at-steady .before .before .before .before in
-    let at-inner = at-mark .before .before .before .before .before .before .before .before in
-    let at-test = at-inner .before .before .before .before .before .before .before in
+    let at-grown = c .before .before .before .before .before in
+    let at-agree = at-grown .before .before .before .before .before in
+    let at-named = at-agree .before .before .before .before .before in
+    let at-test = at-named .before .before .before .before .before in
     omega (arith, at-test .loop-test .taken)
 
 -- on to the child, a level deeper
 loop-again : tie.Need-loop-again Inv-loop μ-loop
-unfolding mainInsertNode mainInsertArm mainInsertRecord mainWay insertOn
+unfolding mainInsertNode mainInsertArm mainInsertWay mainInsertChild insertOn
 loop-again c =
-    let at-sound = c .before in
-    let at-handed = at-sound .before .before .before in
-    let at-put = at-handed .before .before .before .before in
-    let at-grown = at-put .before in
+    let at-deeper = c .before in
+    let at-sound = at-deeper .before in
+    let at-grown = at-sound .before .before .before in
     let at-steady = at-grown .before .before in
     let at-unbalances = at-steady .before in
-    let at-child = at-unbalances .before in
-    let at-below = at-child .before in
-    let at-mark = at-below .before in
-    let at-agreed = at-mark .before .before in
+    let at-agreed = at-unbalances .before in
     let at-agree = at-agreed .before in
-    let at-record = at-agree .before .before .before in
-    let at-inner = at-record .before .before in
+    let at-fork = at-agree .before in
+    let at-inner = at-fork .before .before in
     let at-leaf = at-inner .before in
     let at-named = at-leaf .before in
     let at-slot = at-named .before in
@@ -318,9 +289,9 @@ loop-again c =
     let at-test = at-arm .before .before in
     let at-loop = at-test .before in
     let at-start = at-loop .before .before in (
-      search (needs, at-loop .loop .inv .0, at-put .store, at-handed .insert),
-      at-child .child .ensures .1,
-      child-there _ _ _ _ _ (at-child .child .ensures .0) (at-named .if1 .left) (at-start .pre .3),
+      search (needs, at-loop .loop .inv .0, at-grown .grow),
+      c .child .ensures .1,
+      child-there _ _ _ _ _ (c .child .ensures .0) (at-named .if1 .left) (at-start .pre .3),
       rw (
         ← at-loop .loop .inv .3,
         insertBeneath♯-suc _ (positive _ (at-test .loop-test .taken)),
@@ -329,19 +300,17 @@ loop-again c =
         lt-leb _ _ (at-named .if1 .left),
         ← at-leaf .is-leaf .ensures,
         at-inner .if2 .left,
-        ← at-record .load2 .ensures,
+        ← at-fork .fork .ensures .1 .0,
+        ← at-fork .fork .ensures .1 .1,
         ← at-agree .disagree .ensures,
         at-agreed .if3 .left,
-        ← at-mark .load3 .ensures,
-        ← at-below .below-x .ensures,
         ← at-unbalances .unbalances .ensures,
         at-steady .if4 .left,
-        ← at-grown .grown .ensures,
-        ← at-put .store .ensures,
-        ← at-handed .insert .ensures,
+        ← at-grown .grow .ensures,
         ne-eqb _ _ (at-sound .if5 .left),
-        ← c .deeper .ensures,
-        ← at-child .child .ensures .0,
+        ← at-deeper .deeper .ensures,
+        ← at-fork .fork .ensures .0,
+        ← c .child .ensures .0,
       ),
     )
 
@@ -368,23 +337,19 @@ insert-beneath-spec =
     insert-at-leaf-requires
     same-length-2
     returns-2
-    load-requires-2
+    fork-requires
     disagree-requires
     same-length-3
     returns-3
-    load-requires-3
-    below-x-requires
-    child-requires
     unbalances-requires
     insert-afresh-requires
     same-length-4
     returns-4
-    grown-requires
-    store-requires
-    insert-requires
+    grow-requires
     same-length-5
     returns-5
     deeper-requires
+    child-requires
     loop-less
     loop-again
     same-length-6

@@ -10,7 +10,7 @@ use Rattle.model.specs.Sheet.{alongX}
 use Rattle.geometry.specs.Values.{markValue}
 use Rattle.table.specs.Layout.{mainPlace}
 use Rattle.table.specs.Limits.{deepest}
-use Rattle.secondary_update.specs.Insert.{insertArm, insertNode, insertRecord, insertWay, insert♯, insert♯-suc, insert♯-zero}
+use Rattle.secondary_update.specs.Insert.{insertArm, insertChild, insertNode, insertWay, insert♯, insert♯-suc, insert♯-zero}
 use Rattle.nodes.specs.Weights.{unbalances}
 use borrow.Author.Needs.{needs}
 use borrow.Author.Tests.{le-leb, lt-leb}
@@ -102,12 +102,14 @@ returns-2 c =
       ← c .before .before .split .ensures .1 .1,
     )
 
-load-requires-2 : tie.Need-load-requires-2 Inv-loop μ-loop
-load-requires-2 c κs =
+fork-requires : tie.Need-fork-requires Inv-loop μ-loop
+fork-requires c κs =
     let at-named = c .before .before .before in
     let at-loop = at-named .before .before .before .before .before .before in
-    let at-start = at-loop .before .before in
-    omega (arith, at-loop .loop .inv .0, at-start .pre .3, at-named .if1 .left)
+    let at-start = at-loop .before .before in (
+      omega (arith, at-loop .loop .inv .0, at-start .pre .3, at-named .if1 .left),
+      omega (arith, at-loop .loop .inv .0, at-start .pre .3, at-named .if1 .left),
+    )
 
 disagree-requires : tie.Need-disagree-requires Inv-loop μ-loop
 disagree-requires c κs = search needs
@@ -117,11 +119,11 @@ same-length-3 c = search needs
 
 -- the weights do not add up
 returns-3 : tie.Need-returns-3 Inv-loop μ-loop
-unfolding insertNode insertArm insertRecord
+unfolding insertNode insertArm insertWay
 returns-3 c =
     let at-agree = c .before in
-    let at-record = at-agree .before .before .before in
-    let at-inner = at-record .before .before in
+    let at-fork = at-agree .before in
+    let at-inner = at-fork .before .before in
     let at-leaf = at-inner .before in
     let at-named = at-leaf .before in
     let at-slot = at-named .before in
@@ -136,29 +138,20 @@ returns-3 c =
       lt-leb _ _ (at-named .if1 .left),
       ← at-leaf .is-leaf .ensures,
       at-inner .if2 .left,
-      ← at-record .load2 .ensures,
+      ← at-fork .fork .ensures .1 .0,
+      ← at-fork .fork .ensures .1 .1,
       ← at-agree .disagree .ensures,
       c .if3 .taken,
     )
-
-load-requires-3 : tie.Need-load-requires-3 Inv-loop μ-loop
-load-requires-3 c κs =
-    let at-named = c .before .before .before .before .before .before .before .before .before in
-    let at-loop = at-named .before .before .before .before .before .before in
-    let at-start = at-loop .before .before in
-    omega (arith, at-loop .loop .inv .0, at-start .pre .3, at-named .if1 .left)
-
-below-x-requires : tie.Need-below-x-requires Inv-loop μ-loop
-below-x-requires c κs = search needs
 
 grown-requires : tie.Need-grown-requires Inv-loop μ-loop
 grown-requires c κs = search needs
 
 store-requires : tie.Need-store-requires Inv-loop μ-loop
 store-requires c κs =
-    let at-record = c .before .before .before .before .before .before .before .before .before in
-    let at-slot = at-record .before .before .before .before .before in
-    let at-loop = at-slot .before .before .before .before .before in
+    let at-agree = c .before .before .before in
+    let at-named = at-agree .before .before .before .before .before in
+    let at-loop = at-named .before .before .before .before .before .before in
     omega (arith, at-loop .loop .inv .0, at-loop .loop .inv .2)
 
 child-requires : tie.Need-child-requires Inv-loop μ-loop
@@ -166,24 +159,21 @@ child-requires c κs = search needs
 
 loop-less : tie.Need-loop-less Inv-loop μ-loop
 loop-less c =
-    let at-below = c .before .before .before .before .before .before in
-    let at-agree = at-below .before .before .before .before in
-    let at-leaf = at-agree .before .before .before .before .before .before in
-    let at-test = at-leaf .before .before .before .before .before .before in
+    let at-agree = c .before .before .before .before .before .before .before in
+    let at-named = at-agree .before .before .before .before .before in
+    let at-test = at-named .before .before .before .before .before in
     omega (arith, at-test .loop-test .taken)
 
 -- on to the child
 loop-again : tie.Need-loop-again Inv-loop μ-loop
-unfolding insertNode insertArm insertRecord insertWay unbalances
+unfolding insertNode insertArm insertWay insertChild unbalances
 loop-again c =
     let at-put = c .before .before .before in
     let at-grown = at-put .before in
-    let at-below = at-grown .before .before in
-    let at-mark = at-below .before in
-    let at-agreed = at-mark .before .before in
+    let at-agreed = at-grown .before .before in
     let at-agree = at-agreed .before in
-    let at-record = at-agree .before .before .before in
-    let at-inner = at-record .before .before in
+    let at-fork = at-agree .before in
+    let at-inner = at-fork .before .before in
     let at-leaf = at-inner .before in
     let at-named = at-leaf .before in
     let at-slot = at-named .before in
@@ -202,13 +192,13 @@ loop-again c =
         lt-leb _ _ (at-named .if1 .left),
         ← at-leaf .is-leaf .ensures,
         at-inner .if2 .left,
-        ← at-record .load2 .ensures,
+        ← at-fork .fork .ensures .1 .0,
+        ← at-fork .fork .ensures .1 .1,
         ← at-agree .disagree .ensures,
         at-agreed .if3 .left,
-        ← at-mark .load3 .ensures,
-        ← at-below .below-x .ensures,
         ← at-grown .grown .ensures,
         ← at-put .store .ensures,
+        ← at-fork .fork .ensures .0,
         ← c .child .ensures .0,
       ),
     )
@@ -236,12 +226,10 @@ put-spec =
     split-requires
     same-length-2
     returns-2
-    load-requires-2
+    fork-requires
     disagree-requires
     same-length-3
     returns-3
-    load-requires-3
-    below-x-requires
     grown-requires
     store-requires
     child-requires

@@ -3,7 +3,7 @@ use borrow.Fn.Kinds.{In}
 use borrow.Fn.PlainCycle.{Measures, is, falls, and}
 use Rattle.primary_strike.proofs.lift.+lift.{statement}
 use Rattle.primary_strike.proofs.lift.+lift.Tie.{close}
-use borrow.Author.Tests.{le-leb, le-ltb, lt-leb, lt-ltb}
+use borrow.Author.Tests.{le-leb, lt-leb}
 use Rattle.primary_strike.specs.Lift.{liftNode, liftRecord, liftThere, lift♯-suc, lift♯-zero}
 use borrow.Author.Needs.{needs}
 use Rattle.primary_strike.proofs.lift.lift.Reads as lift
@@ -13,6 +13,7 @@ use Rattle.nodes.proofs.primary.Primary.is_leaf.Reads as is-leaf-reads
 use Rattle.nodes.proofs.primary.Primary.slot.Reads as slot-reads
 use Rattle.nodes.proofs.primary.PrimaryRecord.load.Reads as load-reads
 use Rattle.nodes.proofs.primary.PrimaryRecord.load_auxiliary.Reads as load-auxiliary-reads
+use Rattle.nodes.proofs.secondary.SecondaryRecord.lacks_level.Reads as lacks-level-reads
 use Rattle.secondary_build.proofs.copy.copy.Reads as copy-reads
 use Rattle.twofold_layout.proofs.levels.deeper.Reads as deeper-reads
 
@@ -31,6 +32,8 @@ said t = (
   is-leaf-reads.Learnt,
   slot-reads.Asked,
   slot-reads.Learnt,
+  lacks-level-reads.Asked,
+  lacks-level-reads.Learnt,
   load-reads.Asked,
   load-reads.Learnt,
   load-auxiliary-reads.Asked,
@@ -76,44 +79,19 @@ lift-returns-3 t c =
       le-leb _ _ (c .if3 .taken),
     )
 
--- src/lift.rt:29:36
-lift-mul-if4 : (t : ℕ) → lift-lts.Need-mul-if4 (said t) (lift-at t) lift.Post
-lift-mul-if4 t c = search needs
+-- src/lift.rt:29:8
+lift-lacks-level-requires : (t : ℕ) → lift-lts.Need-lacks-level-requires (said t) (lift-at t) lift.Post
+lift-lacks-level-requires t c κs = search needs
 
--- src/lift.rt:29:18
-lift-add-if4 : (t : ℕ) → lift-lts.Need-add-if4 (said t) (lift-at t) lift.Post
-lift-add-if4 t c = search needs
+-- src/lift.rt:30:9
+lift-same-length : (t : ℕ) → lift-lts.Need-same-length (said t) (lift-at t) lift.Post
+lift-same-length t c = search needs
 
 -- src/lift.rt:30:9
 lift-returns-4 : (t : ℕ) → lift-lts.Need-returns-4 (said t) (lift-at t) lift.Post
 unfolding liftNode liftThere liftRecord
 lift-returns-4 t c =
-    let at-slot = c .before .before in
-    let at-if2 = at-slot .before in
-    let at-is-leaf = at-if2 .before in
-    let at-if1 = at-is-leaf .before in
-    rw (
-      lift♯-suc _ (at-if1 .if1 .left),
-      ← at-is-leaf .is-leaf .ensures,
-      at-if2 .if2 .left,
-      ← at-slot .slot .ensures,
-      lt-leb _ _ (c .before .if3 .left),
-      lt-ltb _ _ (c .if4 .taken),
-    )
-
--- src/lift.rt:32:34
-lift-mul-if5 : (t : ℕ) → lift-lts.Need-mul-if5 (said t) (lift-at t) lift.Post
-lift-mul-if5 t c = search needs
-
--- src/lift.rt:32:18
-lift-add-if5 : (t : ℕ) → lift-lts.Need-add-if5 (said t) (lift-at t) lift.Post
-lift-add-if5 t c = search needs
-
--- src/lift.rt:33:9
-lift-returns-5 : (t : ℕ) → lift-lts.Need-returns-5 (said t) (lift-at t) lift.Post
-unfolding liftNode liftThere liftRecord
-lift-returns-5 t c =
-    let at-if3 = c .before .before in
+    let at-if3 = c .before .before .before in
     let at-slot = at-if3 .before in
     let at-if2 = at-slot .before in
     let at-is-leaf = at-if2 .before in
@@ -124,8 +102,39 @@ lift-returns-5 t c =
       at-if2 .if2 .left,
       ← at-slot .slot .ensures,
       lt-leb _ _ (at-if3 .if3 .left),
-      le-ltb _ _ (c .before .if4 .left),
-      lt-ltb _ _ (c .if5 .taken),
+      ← c .before .lacks-level .ensures .0,
+      c .if4 .taken,
+    )
+
+-- src/lift.rt:32:8
+lift-lacks-level-requires-2 : (t : ℕ) → lift-lts.Need-lacks-level-requires-2 (said t) (lift-at t) lift.Post
+lift-lacks-level-requires-2 t c κs = search needs
+
+-- src/lift.rt:33:9
+lift-same-length-2 : (t : ℕ) → lift-lts.Need-same-length-2 (said t) (lift-at t) lift.Post
+lift-same-length-2 t c = search needs
+
+-- src/lift.rt:33:9
+lift-returns-5 : (t : ℕ) → lift-lts.Need-returns-5 (said t) (lift-at t) lift.Post
+unfolding liftNode liftThere liftRecord
+lift-returns-5 t c =
+    let at-if4 = c .before .before .before in
+    let at-lacks-level = at-if4 .before in
+    let at-if3 = at-lacks-level .before .before in
+    let at-slot = at-if3 .before in
+    let at-if2 = at-slot .before in
+    let at-is-leaf = at-if2 .before in
+    let at-if1 = at-is-leaf .before in
+    rw (
+      lift♯-suc _ (at-if1 .if1 .left),
+      ← at-is-leaf .is-leaf .ensures,
+      at-if2 .if2 .left,
+      ← at-slot .slot .ensures,
+      lt-leb _ _ (at-if3 .if3 .left),
+      ← at-lacks-level .lacks-level .ensures .0,
+      at-if4 .if4 .left,
+      ← c .before .lacks-level2 .ensures .0,
+      c .if5 .taken,
     )
 
 -- src/lift.rt:35:9
@@ -138,7 +147,13 @@ lift-load-auxiliary-requires t c κs = search needs
 
 -- src/lift.rt:39:5
 lift-copy-requires : (t : ℕ) → lift-lts.Need-copy-requires (said t) (lift-at t) lift.Post
-lift-copy-requires t c κs = search needs
+lift-copy-requires t c κs =
+    let at-load = c .before .before .before .before .before in
+    let at-if5 = at-load .before .before in
+    let at-lacks-level2 = at-if5 .before in
+    let at-if4 = at-lacks-level2 .before .before in
+    let at-lacks-level = at-if4 .before in
+    (at-lacks-level .lacks-level .ensures .1 (at-if4 .if4 .left), at-lacks-level2 .lacks-level2 .ensures .1 (at-if5 .if5 .left))
 
 -- src/lift.rt:40:9
 lift-deeper-requires : (t : ℕ) → lift-lts.Need-deeper-requires (said t) (lift-at t) lift.Post
@@ -146,14 +161,21 @@ lift-deeper-requires t c κs = search needs
 
 -- src/lift.rt:41:44
 lift-sub-lift : (t : ℕ) → lift-lts.Need-sub-lift (said t) (lift-at t) lift.Post
-lift-sub-lift t c = search needs
+lift-sub-lift t c =
+    let at-load-auxiliary = c .before .before .before .before .before .before in
+    let at-if5 = at-load-auxiliary .before .before .before .before .before .before in
+    let at-lacks-level-arg = at-if5 .before .before .before .before .before in
+    let at-if1 = at-lacks-level-arg .before .before .before .before .before in
+    let at-start = at-if1 .before .before in
+    search (needs, at-if1 .if1 .left, at-start .pre)
 
 -- src/lift.rt:41:5
 lift-lift-requires : (t : ℕ) → lift-lts.Need-lift-requires (said t) (lift-at t) lift.Post
 lift-lift-requires t c κs =
     let at-load-auxiliary = c .before .before .before .before .before .before in
     let at-if5 = at-load-auxiliary .before .before .before .before .before .before in
-    let at-if1 = at-if5 .before .before .before .before .before .before in
+    let at-lacks-level-arg = at-if5 .before .before .before .before .before in
+    let at-if1 = at-lacks-level-arg .before .before .before .before .before in
     let at-start = at-if1 .before .before in
     search (needs, at-if1 .if1 .left, at-start .pre)
 
@@ -161,9 +183,10 @@ lift-lift-requires t c κs =
 lift-sub-lift-2 : (t : ℕ) → lift-lts.Need-sub-lift-2 (said t) (lift-at t) lift.Post
 lift-sub-lift-2 t c =
     let at-slice-known2 = c .before .before .before .before .before .before in
-    let at-r = at-slice-known2 .before .before .before .before .before .before in
-    let at-if4 = at-r .before .before .before .before .before in
-    let at-if1 = at-if4 .before .before .before .before .before in
+    let at-load-auxiliary-arg = at-slice-known2 .before .before .before .before .before in
+    let at-if5 = at-load-auxiliary-arg .before .before .before .before .before in
+    let at-lacks-level-arg = at-if5 .before .before .before .before .before in
+    let at-if1 = at-lacks-level-arg .before .before .before .before .before in
     let at-start = at-if1 .before .before in
     search (needs, at-if1 .if1 .left, at-start .pre)
 
@@ -171,15 +194,16 @@ lift-sub-lift-2 t c =
 lift-lift-requires-2 : (t : ℕ) → lift-lts.Need-lift-requires-2 (said t) (lift-at t) lift.Post
 lift-lift-requires-2 t c κs =
     let at-slice-known2 = c .before .before .before .before .before .before in
-    let at-r = at-slice-known2 .before .before .before .before .before .before in
-    let at-if4 = at-r .before .before .before .before .before in
-    let at-if1 = at-if4 .before .before .before .before .before in
+    let at-load-auxiliary-arg = at-slice-known2 .before .before .before .before .before in
+    let at-if5 = at-load-auxiliary-arg .before .before .before .before .before in
+    let at-lacks-level-arg = at-if5 .before .before .before .before .before in
+    let at-if1 = at-lacks-level-arg .before .before .before .before .before in
     let at-start = at-if1 .before .before in
     search (needs, at-if1 .if1 .left, at-start .pre)
 
 -- src/lift.rt:15:1
-lift-same-length : (t : ℕ) → lift-lts.Need-same-length (said t) (lift-at t) lift.Post
-lift-same-length t c = search needs
+lift-same-length-3 : (t : ℕ) → lift-lts.Need-same-length-3 (said t) (lift-at t) lift.Post
+lift-same-length-3 t c = search needs
 
 -- src/lift.rt:15:1
 lift-returns-6 : (t : ℕ) → lift-lts.Need-returns-6 (said t) (lift-at t) lift.Post
@@ -192,8 +216,10 @@ lift-returns-6 t c =
     let at-load-auxiliary = at-copy .before .before in
     let at-load = at-load-auxiliary .before .before .before .before in
     let at-if5 = at-load .before .before in
-    let at-if4 = at-if5 .before in
-    let at-if3 = at-if4 .before in
+    let at-lacks-level2 = at-if5 .before in
+    let at-if4 = at-lacks-level2 .before .before in
+    let at-lacks-level = at-if4 .before in
+    let at-if3 = at-lacks-level .before .before in
     let at-slot = at-if3 .before in
     let at-if2 = at-slot .before in
     let at-is-leaf = at-if2 .before in
@@ -204,8 +230,10 @@ lift-returns-6 t c =
       at-if2 .if2 .left,
       ← at-slot .slot .ensures,
       lt-leb _ _ (at-if3 .if3 .left),
-      le-ltb _ _ (at-if4 .if4 .left),
-      le-ltb _ _ (at-if5 .if5 .left),
+      ← at-lacks-level .lacks-level .ensures .0,
+      at-if4 .if4 .left,
+      ← at-lacks-level2 .lacks-level2 .ensures .0,
+      at-if5 .if5 .left,
       ← at-load .load .ensures,
       ← at-load-auxiliary .load-auxiliary .ensures,
       ← at-copy .copy .ensures,
@@ -223,11 +251,11 @@ pub +lift-spec : {M : Type 1} → statement M
     (lift-returns-2 t)
     (lift-slot-requires t)
     (lift-returns-3 t)
-    (lift-mul-if4 t)
-    (lift-add-if4 t)
+    (lift-lacks-level-requires t)
+    (lift-same-length t)
     (lift-returns-4 t)
-    (lift-mul-if5 t)
-    (lift-add-if5 t)
+    (lift-lacks-level-requires-2 t)
+    (lift-same-length-2 t)
     (lift-returns-5 t)
     (lift-load-requires t)
     (lift-load-auxiliary-requires t)
@@ -237,5 +265,5 @@ pub +lift-spec : {M : Type 1} → statement M
     (lift-lift-requires t)
     (lift-sub-lift-2 t)
     (lift-lift-requires-2 t)
-    (lift-same-length t)
+    (lift-same-length-3 t)
     (lift-returns-6 t)

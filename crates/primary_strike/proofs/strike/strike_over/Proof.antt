@@ -1,62 +1,94 @@
 use borrow.Author.Needs.{needs}
 use Rattle.primary_strike.proofs.strike.strike_over.Statement.{statement}
 use borrow.Author.Tests.{eq-eqb, ne-eqb}
-use Rattle.primary_strike.specs.Strike.{mainStrikeOver}
+use Rattle.primary_strike.specs.Strike.{mainNodeOver}
+use Rattle.secondary_update.specs.Strike.{strikeOver}
 use Rattle.primary_strike.proofs.strike.strike_over.Tie as tie
+use Rattle.primary_strike.proofs.strike.strike_over.Reads as reads
+use Rattle.primary_strike.proofs.strike.strike_over.Lts as lts
+use Rattle.nodes.proofs.arm.renamed.Reads as renamed-reads
+use Rattle.nodes.proofs.weights.fewer.Reads as fewer-reads
+use Rattle.primary_strike.proofs.strike.damaged.Reads as damaged-reads
+use Rattle.primary_strike.proofs.strike.node_over.Reads as node-over-reads
 
--- src/strike.rt:112:9
-damaged-requires : tie.Need-damaged-requires
-damaged-requires c κs = search needs
+-- src/strike.rt:138:25
+fewer-requires : tie.Need-fewer-requires
+fewer-requires c κs = search needs
 
--- src/strike.rt:112:9
-returns : tie.Need-returns
-unfolding mainStrikeOver
-returns c = rw (eq-eqb _ _ (c .before .if1 .taken), ← c .damaged .ensures)
+-- src/strike.rt:140:13
+node-over-requires : tie.Need-node-over-requires
+node-over-requires c κs = search needs
 
--- src/strike.rt:114:5
-store-requires : tie.Need-store-requires
-store-requires c κs = search needs
-
--- src/strike.rt:115:5
-store-auxiliary-requires : tie.Need-store-auxiliary-requires
-store-auxiliary-requires c κs = search needs
-
--- src/strike.rt:116:12
-over-requires : tie.Need-over-requires
-over-requires c κs = search needs
-
--- src/strike.rt:116:5
-answer-requires : tie.Need-answer-requires
-answer-requires c κs = search needs
-
--- src/strike.rt:99:1
+-- src/strike.rt:140:13
 same-length : tie.Need-same-length
 same-length c = search needs
 
--- src/strike.rt:99:1
-returns-2 : tie.Need-returns-2
-unfolding mainStrikeOver
-returns-2 c =
-    let at-store-auxiliary = c .before .before .before .before in
-    let at-store = at-store-auxiliary .before .before .before .before in
-    let at-if1 = at-store .before .before in
+-- src/strike.rt:140:13
+returns : tie.Need-returns
+unfolding mainNodeOver strikeOver
+returns c =
+    let at-node-over = c .before .before in
+    let at-if2 = at-node-over .before .before in
+    let at-if1 = at-if2 .before in
+    let at-fewer = at-if1 .before .before in
     rw (
-      ne-eqb _ _ (at-if1 .if1 .left),
-      ← at-store .store .ensures,
-      ← at-store-auxiliary .store-auxiliary .ensures,
-      ← c .before .over .ensures,
-      ← c .answer .ensures,
+      ← at-fewer .fewer .ensures,
+      eq-eqb _ _ (at-if1 .if1 .taken),
+      at-if2 .if2 .taken,
+      ← at-node-over .node-over .ensures,
     )
+
+-- src/strike.rt:142:13
+renamed-requires : tie.Need-renamed-requires
+renamed-requires c κs = search needs
+
+-- src/strike.rt:143:9
+node-over-requires-2 : tie.Need-node-over-requires-2
+node-over-requires-2 c κs = search needs
+
+-- src/strike.rt:143:9
+same-length-2 : tie.Need-same-length-2
+same-length-2 c = search needs
+
+-- src/strike.rt:143:9
+returns-2 : tie.Need-returns-2
+unfolding mainNodeOver strikeOver
+returns-2 c =
+    let at-node-over2 = c .before .before in
+    let at-renamed = at-node-over2 .before .before in
+    let at-if2 = at-renamed .before in
+    let at-if1 = at-if2 .before in
+    let at-fewer = at-if1 .before .before in
+    rw (
+      ← at-fewer .fewer .ensures,
+      eq-eqb _ _ (at-if1 .if1 .taken),
+      at-if2 .if2 .left,
+      ← at-renamed .renamed .ensures .0,
+      ← at-node-over2 .node-over2 .ensures,
+    )
+
+-- src/strike.rt:145:5
+damaged-requires : tie.Need-damaged-requires
+damaged-requires c κs = search needs
+
+-- src/strike.rt:122:1
+returns-3 : tie.Need-returns-3
+unfolding mainNodeOver strikeOver
+returns-3 c =
+    let at-fewer = c .before .before .before in
+    rw (← at-fewer .fewer .ensures, ne-eqb _ _ (c .before .if1 .left), ← c .damaged .ensures)
 
 pub strike-over-spec : {M : Type 1} → statement M
 strike-over-spec =
     tie.close
     (tie.spec
-    damaged-requires
-    returns
-    store-requires
-    store-auxiliary-requires
-    over-requires
-    answer-requires
+    fewer-requires
+    node-over-requires
     same-length
-    returns-2)
+    returns
+    renamed-requires
+    node-over-requires-2
+    same-length-2
+    returns-2
+    damaged-requires
+    returns-3)

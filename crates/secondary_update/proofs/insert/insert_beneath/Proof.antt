@@ -1,7 +1,7 @@
 -- The loop keeps: as many words; the arms at the words `at` and `top` are there; the insertion that is left, from `at` on with `left` levels, and then what is
 -- to be built afresh at `top`, is the whole one. What falls: left.
 use Rattle.secondary_update.proofs.insert.insert_beneath.Statement.{statement}
-use Rattle.secondary_update.specs.Insert.{insertAfresh, insertArm, insertNode, insertRecord, insertWay, insert♯, insert♯-zero, insert♯-suc}
+use Rattle.secondary_update.specs.Insert.{ended, insertAfresh, insertArm, insertNode, insertChild, insertWay, insert♯, insert♯-zero, insert♯-suc}
 use Rattle.nodes.specs.Weights.{unbalances}
 use Prim.Native.Nat.{_+_, _<_, _≤_, _^_}
 use mathlib.Core.Path.{_≡_, sym, _∙_}
@@ -15,7 +15,7 @@ use borrow.Author.Needs.{needs}
 use borrow.Author.Tests.{le-leb, lt-leb}
 use native.Mathlib.Omega.{arith}
 use Rattle.table.proofs.Fuel.{positive, nothing}
-use Rattle.secondary_update.proofs.Steps.{child-there, ended, ended-damaged, was-mending}
+use Rattle.secondary_update.proofs.Steps.{child-there, ended-damaged, was-mending}
 use Rattle.secondary_update.proofs.insert.insert_beneath.Tie as tie
 
 abbrev Inv-loop : tie.InvT-loop
@@ -64,14 +64,15 @@ returns c =
 is-leaf-requires : tie.Need-is-leaf-requires Inv-loop μ-loop
 is-leaf-requires c κs = search needs
 
-split-requires : tie.Need-split-requires Inv-loop μ-loop
-split-requires c κs =
+insert-at-leaf-requires : tie.Need-insert-at-leaf-requires Inv-loop μ-loop
+insert-at-leaf-requires c κs =
     let at-named = c .before .before .before in
     let at-slot = at-named .before in
     let at-loop = at-slot .before .before .before .before .before in
     let at-start = at-loop .before .before in (
       rw (← at-slot .slot .ensures) (at-named .if1 .left),
       at-start .pre .0,
+      omega (arith, at-loop .loop .inv .0, at-loop .loop .inv .3),
       (
         at-loop .loop .inv .1,
         omega (arith, at-loop .loop .inv .0, at-loop .loop .inv .2),
@@ -82,17 +83,17 @@ split-requires c κs =
 
 same-length-2 : tie.Need-same-length-2 Inv-loop μ-loop
 same-length-2 c =
-    let at-split = c .before .before .before in
-    let at-slot = at-split .before .before .before .before .before in
-    let at-loop = at-slot .before .before .before .before .before in
-    search (needs, at-loop .loop .inv .0, at-split .split)
+    let at-done = c .before .before in
+    let at-named = at-done .before .before .before .before in
+    let at-loop = at-named .before .before .before .before .before .before in
+    search (needs, at-loop .loop .inv .0, at-done .insert-at-leaf)
 
--- a leaf, and no node to build afresh
+-- a leaf
 returns-2 : tie.Need-returns-2 Inv-loop μ-loop
 unfolding insertNode insertArm
 returns-2 c =
-    let at-split = c .before .before .before in
-    let at-inner = at-split .before .before in
+    let at-done = c .before .before in
+    let at-inner = at-done .before .before in
     let at-leaf = at-inner .before in
     let at-named = at-leaf .before in
     let at-slot = at-named .before in
@@ -107,70 +108,31 @@ returns-2 c =
       lt-leb _ _ (at-named .if1 .left),
       ← at-leaf .is-leaf .ensures,
       at-inner .if2 .taken,
-      ← at-split .split .ensures,
-      c .if3 .taken,
+      ← at-done .insert-at-leaf .ensures,
     )
 
-afresh-requires : tie.Need-afresh-requires Inv-loop μ-loop
-afresh-requires c κs =
-    let at-leaf = c .before .before .before .before .before .before .before in
-    let at-loop = at-leaf .before .before .before .before .before .before .before in
-    omega (arith, at-loop .loop .inv .3)
-
-same-length-3 : tie.Need-same-length-3 Inv-loop μ-loop
-same-length-3 c =
-    let at-split = c .before .before .before .before .before .before .before in
-    let at-slot = at-split .before .before .before .before .before in
-    let at-loop = at-slot .before .before .before .before .before in
-    search (needs, at-loop .loop .inv .0, at-split .split)
-
--- a leaf, and a node to build afresh
-returns-3 : tie.Need-returns-3 Inv-loop μ-loop
-unfolding insertNode insertArm
-returns-3 c =
-    let at-afresh = c .before .before in
-    let at-ends = at-afresh .before .before in
-    let at-split = at-ends .before .before .before in
-    let at-inner = at-split .before .before in
-    let at-leaf = at-inner .before in
-    let at-named = at-leaf .before in
-    let at-slot = at-named .before in
-    let at-arm = at-slot .before .before in
-    let at-test = at-arm .before .before in
-    let at-loop = at-test .before in
-    rw (
-      ← at-loop .loop .inv .4,
-      insert♯-suc _ (positive _ (at-test .loop-test .taken)),
-      ← at-arm .load .ensures,
-      ← at-slot .slot .ensures,
-      lt-leb _ _ (at-named .if1 .left),
-      ← at-leaf .is-leaf .ensures,
-      at-inner .if2 .taken,
-      ← at-split .split .ensures,
-      at-ends .if3 .left,
-      ← at-afresh .afresh .ensures,
-    )
-
-load-requires-2 : tie.Need-load-requires-2 Inv-loop μ-loop
-load-requires-2 c κs =
+fork-requires : tie.Need-fork-requires Inv-loop μ-loop
+fork-requires c κs =
     let at-named = c .before .before .before in
     let at-loop = at-named .before .before .before .before .before .before in
-    let at-start = at-loop .before .before in
-    omega (arith, at-loop .loop .inv .0, at-start .pre .1 .3, at-named .if1 .left)
+    let at-start = at-loop .before .before in (
+      omega (arith, at-loop .loop .inv .0, at-start .pre .1 .2, at-named .if1 .left),
+      omega (arith, at-loop .loop .inv .0, at-start .pre .1 .3, at-named .if1 .left),
+    )
 
 disagree-requires : tie.Need-disagree-requires Inv-loop μ-loop
 disagree-requires c κs = search needs
 
-same-length-4 : tie.Need-same-length-4 Inv-loop μ-loop
-same-length-4 c = search needs
+same-length-3 : tie.Need-same-length-3 Inv-loop μ-loop
+same-length-3 c = search needs
 
 -- the weights do not add up
-returns-4 : tie.Need-returns-4 Inv-loop μ-loop
-unfolding insertNode insertArm insertRecord
-returns-4 c =
+returns-3 : tie.Need-returns-3 Inv-loop μ-loop
+unfolding insertNode insertArm insertWay
+returns-3 c =
     let at-agree = c .before in
-    let at-record = at-agree .before .before .before in
-    let at-inner = at-record .before .before in
+    let at-fork = at-agree .before in
+    let at-inner = at-fork .before .before in
     let at-leaf = at-inner .before in
     let at-named = at-leaf .before in
     let at-slot = at-named .before in
@@ -185,44 +147,32 @@ returns-4 c =
       lt-leb _ _ (at-named .if1 .left),
       ← at-leaf .is-leaf .ensures,
       at-inner .if2 .left,
-      ← at-record .load2 .ensures,
+      ← at-fork .fork .ensures .1 .0,
+      ← at-fork .fork .ensures .1 .1,
       ← at-agree .disagree .ensures,
-      c .if4 .taken,
+      c .if3 .taken,
       ended-damaged _ _ _ _ _,
     )
-
-load-requires-3 : tie.Need-load-requires-3 Inv-loop μ-loop
-load-requires-3 c κs =
-    let at-named = c .before .before .before .before .before .before .before .before .before in
-    let at-loop = at-named .before .before .before .before .before .before in
-    let at-start = at-loop .before .before in
-    omega (arith, at-loop .loop .inv .0, at-start .pre .1 .2, at-named .if1 .left)
-
-below-y-requires : tie.Need-below-y-requires Inv-loop μ-loop
-below-y-requires c κs = search needs
 
 unbalances-requires : tie.Need-unbalances-requires Inv-loop μ-loop
 unbalances-requires c κs = search needs
 
 loop-less : tie.Need-loop-less Inv-loop μ-loop
 loop-less c =
-    let at-agreed = c .before .before .before .before .before .before in
-    let at-split = at-agreed .before .before .before .before in
-    let at-test = at-split .before .before .before .before .before .before .before .before .before in
+    let at-agree = c .before .before .before in
+    let at-named = at-agree .before .before .before .before .before in
+    let at-test = at-named .before .before .before .before .before in
     omega (arith, at-test .loop-test .taken)
 
--- the node will not be balanced with the mark on its left
+-- the node will not be balanced with one mark more
 loop-again : tie.Need-loop-again Inv-loop μ-loop
-unfolding insertNode insertArm insertRecord insertWay insertAfresh
+unfolding insertNode insertArm insertWay insertChild insertAfresh
 loop-again c =
     let at-unbalances = c .before in
-    let at-way = at-unbalances .before in
-    let at-below = at-way .before in
-    let at-mark = at-below .before in
-    let at-agreed = at-mark .before .before in
+    let at-agreed = at-unbalances .before in
     let at-agree = at-agreed .before in
-    let at-record = at-agree .before .before .before in
-    let at-inner = at-record .before .before in
+    let at-fork = at-agree .before in
+    let at-inner = at-fork .before .before in
     let at-leaf = at-inner .before in
     let at-named = at-leaf .before in
     let at-slot = at-named .before in
@@ -241,15 +191,13 @@ loop-again c =
         lt-leb _ _ (at-named .if1 .left),
         ← at-leaf .is-leaf .ensures,
         at-inner .if2 .left,
-        ← at-record .load2 .ensures,
+        ← at-fork .fork .ensures .1 .0,
+        ← at-fork .fork .ensures .1 .1,
         ← at-agree .disagree .ensures,
-        at-agreed .if4 .left,
-        ← at-mark .load3 .ensures,
-        ← at-below .below-y .ensures,
-        at-way .if5 .taken,
+        at-agreed .if3 .left,
         ← at-unbalances .unbalances .ensures,
-        c .if6 .taken,
-        was-mending _ _ _ _ (sym (at-unbalances .unbalances .ensures) ∙ c .if6 .taken),
+        c .if4 .taken,
+        was-mending _ _ _ (sym (at-unbalances .unbalances .ensures) ∙ c .if4 .taken),
       ),
     )
 
@@ -258,10 +206,9 @@ grown-requires c κs = search needs
 
 store-requires : tie.Need-store-requires Inv-loop μ-loop
 store-requires c κs =
-    let at-mark = c .before .before .before .before .before .before in
-    let at-split = at-mark .before .before .before .before .before .before in
-    let at-slot = at-split .before .before .before .before .before in
-    let at-loop = at-slot .before .before .before .before .before in
+    let at-agree = c .before .before .before .before .before in
+    let at-named = at-agree .before .before .before .before .before in
+    let at-loop = at-named .before .before .before .before .before .before in
     omega (arith, at-loop .loop .inv .0, at-loop .loop .inv .2)
 
 child-requires : tie.Need-child-requires Inv-loop μ-loop
@@ -269,27 +216,24 @@ child-requires c κs = search needs
 
 loop-less-2 : tie.Need-loop-less-2 Inv-loop μ-loop
 loop-less-2 c =
-    let at-unbalances = c .before .before .before .before .before .before .before in
-    let at-ends = at-unbalances .before .before .before .before .before .before in
-    let at-leaf = at-ends .before .before .before .before .before .before in
-    let at-test = at-leaf .before .before .before .before .before .before in
+    let at-steady = c .before .before .before .before .before .before in
+    let at-agree = at-steady .before .before .before in
+    let at-named = at-agree .before .before .before .before .before in
+    let at-test = at-named .before .before .before .before .before in
     omega (arith, at-test .loop-test .taken)
 
--- on to the left child
+-- on to the child
 loop-again-2 : tie.Need-loop-again-2 Inv-loop μ-loop
-unfolding insertNode insertArm insertRecord insertWay
+unfolding insertNode insertArm insertWay insertChild
 loop-again-2 c =
     let at-put = c .before .before .before in
     let at-grown = at-put .before in
     let at-steady = at-grown .before .before in
     let at-unbalances = at-steady .before in
-    let at-way = at-unbalances .before in
-    let at-below = at-way .before in
-    let at-mark = at-below .before in
-    let at-agreed = at-mark .before .before in
+    let at-agreed = at-unbalances .before in
     let at-agree = at-agreed .before in
-    let at-record = at-agree .before .before .before in
-    let at-inner = at-record .before .before in
+    let at-fork = at-agree .before in
+    let at-inner = at-fork .before .before in
     let at-leaf = at-inner .before in
     let at-named = at-leaf .before in
     let at-slot = at-named .before in
@@ -309,148 +253,25 @@ loop-again-2 c =
         lt-leb _ _ (at-named .if1 .left),
         ← at-leaf .is-leaf .ensures,
         at-inner .if2 .left,
-        ← at-record .load2 .ensures,
+        ← at-fork .fork .ensures .1 .0,
+        ← at-fork .fork .ensures .1 .1,
         ← at-agree .disagree .ensures,
-        at-agreed .if4 .left,
-        ← at-mark .load3 .ensures,
-        ← at-below .below-y .ensures,
-        at-way .if5 .taken,
+        at-agreed .if3 .left,
         ← at-unbalances .unbalances .ensures,
-        at-steady .if6 .left,
+        at-steady .if4 .left,
         ← at-grown .grown .ensures,
         ← at-put .store .ensures,
+        ← at-fork .fork .ensures .0,
         ← c .child .ensures .0,
       ),
     )
 
-unbalances-requires-2 : tie.Need-unbalances-requires-2 Inv-loop μ-loop
-unbalances-requires-2 c κs = search needs
-
-loop-less-3 : tie.Need-loop-less-3 Inv-loop μ-loop
-loop-less-3 c =
-    let at-agreed = c .before .before .before .before .before .before in
-    let at-split = at-agreed .before .before .before .before in
-    let at-test = at-split .before .before .before .before .before .before .before .before .before in
-    omega (arith, at-test .loop-test .taken)
-
--- the node will not be balanced with the mark on its right
-loop-again-3 : tie.Need-loop-again-3 Inv-loop μ-loop
-unfolding insertNode insertArm insertRecord insertWay insertAfresh
-loop-again-3 c =
-    let at-unbalances = c .before in
-    let at-way = at-unbalances .before in
-    let at-below = at-way .before in
-    let at-mark = at-below .before in
-    let at-agreed = at-mark .before .before in
-    let at-agree = at-agreed .before in
-    let at-record = at-agree .before .before .before in
-    let at-inner = at-record .before .before in
-    let at-leaf = at-inner .before in
-    let at-named = at-leaf .before in
-    let at-slot = at-named .before in
-    let at-arm = at-slot .before .before in
-    let at-test = at-arm .before .before in
-    let at-loop = at-test .before in (
-      at-loop .loop .inv .0,
-      at-loop .loop .inv .1,
-      at-loop .loop .inv .2,
-      at-loop .loop .inv .2,
-      rw (
-        ← at-loop .loop .inv .4,
-        insert♯-suc _ (positive _ (at-test .loop-test .taken)),
-        ← at-arm .load .ensures,
-        ← at-slot .slot .ensures,
-        lt-leb _ _ (at-named .if1 .left),
-        ← at-leaf .is-leaf .ensures,
-        at-inner .if2 .left,
-        ← at-record .load2 .ensures,
-        ← at-agree .disagree .ensures,
-        at-agreed .if4 .left,
-        ← at-mark .load3 .ensures,
-        ← at-below .below-y .ensures,
-        at-way .if5 .left,
-        ← at-unbalances .unbalances2 .ensures,
-        c .if7 .taken,
-        was-mending _ _ _ _ (sym (at-unbalances .unbalances2 .ensures) ∙ c .if7 .taken),
-      ),
-    )
-
-grown-requires-2 : tie.Need-grown-requires-2 Inv-loop μ-loop
-grown-requires-2 c κs = search needs
-
-store-requires-2 : tie.Need-store-requires-2 Inv-loop μ-loop
-store-requires-2 c κs =
-    let at-mark = c .before .before .before .before .before .before in
-    let at-split = at-mark .before .before .before .before .before .before in
-    let at-slot = at-split .before .before .before .before .before in
-    let at-loop = at-slot .before .before .before .before .before in
-    omega (arith, at-loop .loop .inv .0, at-loop .loop .inv .2)
-
-child-requires-2 : tie.Need-child-requires-2 Inv-loop μ-loop
-child-requires-2 c κs = search needs
-
-loop-less-4 : tie.Need-loop-less-4 Inv-loop μ-loop
-loop-less-4 c =
-    let at-unbalances = c .before .before .before .before .before .before .before in
-    let at-ends = at-unbalances .before .before .before .before .before .before in
-    let at-leaf = at-ends .before .before .before .before .before .before in
-    let at-test = at-leaf .before .before .before .before .before .before in
-    omega (arith, at-test .loop-test .taken)
-
--- on to the right child
-loop-again-4 : tie.Need-loop-again-4 Inv-loop μ-loop
-unfolding insertNode insertArm insertRecord insertWay
-loop-again-4 c =
-    let at-put = c .before .before .before in
-    let at-grown = at-put .before in
-    let at-steady = at-grown .before .before in
-    let at-unbalances = at-steady .before in
-    let at-way = at-unbalances .before in
-    let at-below = at-way .before in
-    let at-mark = at-below .before in
-    let at-agreed = at-mark .before .before in
-    let at-agree = at-agreed .before in
-    let at-record = at-agree .before .before .before in
-    let at-inner = at-record .before .before in
-    let at-leaf = at-inner .before in
-    let at-named = at-leaf .before in
-    let at-slot = at-named .before in
-    let at-arm = at-slot .before .before in
-    let at-test = at-arm .before .before in
-    let at-loop = at-test .before in
-    let at-start = at-loop .before .before in (
-      search (needs, at-loop .loop .inv .0, at-put .store2),
-      c .child2 .ensures .1,
-      child-there _ _ _ _ _ _ (c .child2 .ensures .0) (at-named .if1 .left) (at-start .pre .1 .3),
-      at-loop .loop .inv .3,
-      rw (
-        ← at-loop .loop .inv .4,
-        insert♯-suc _ (positive _ (at-test .loop-test .taken)),
-        ← at-arm .load .ensures,
-        ← at-slot .slot .ensures,
-        lt-leb _ _ (at-named .if1 .left),
-        ← at-leaf .is-leaf .ensures,
-        at-inner .if2 .left,
-        ← at-record .load2 .ensures,
-        ← at-agree .disagree .ensures,
-        at-agreed .if4 .left,
-        ← at-mark .load3 .ensures,
-        ← at-below .below-y .ensures,
-        at-way .if5 .left,
-        ← at-unbalances .unbalances2 .ensures,
-        at-steady .if7 .left,
-        ← at-grown .grown2 .ensures,
-        ← at-put .store2 .ensures,
-        ← c .child2 .ensures .0,
-      ),
-    )
-
-same-length-5 : tie.Need-same-length-5 Inv-loop μ-loop
-same-length-5 c = search needs
+same-length-4 : tie.Need-same-length-4 Inv-loop μ-loop
+same-length-4 c = search needs
 
 -- the levels are used up
-returns-5 : tie.Need-returns-5 Inv-loop μ-loop
-returns-5 c = rw (← c .before .loop .inv .4, insert♯-zero _ (nothing _ (c .loop-test .left)), ended-damaged _ _ _ _ _)
+returns-4 : tie.Need-returns-4 Inv-loop μ-loop
+returns-4 c = rw (← c .before .loop .inv .4, insert♯-zero _ (nothing _ (c .loop-test .left)), ended-damaged _ _ _ _ _)
 
 pub insert-beneath-spec : {M : Type 1} → statement M
 insert-beneath-spec =
@@ -465,18 +286,13 @@ insert-beneath-spec =
     same-length
     returns
     is-leaf-requires
-    split-requires
+    insert-at-leaf-requires
     same-length-2
     returns-2
-    afresh-requires
+    fork-requires
+    disagree-requires
     same-length-3
     returns-3
-    load-requires-2
-    disagree-requires
-    same-length-4
-    returns-4
-    load-requires-3
-    below-y-requires
     unbalances-requires
     loop-less
     loop-again
@@ -485,13 +301,5 @@ insert-beneath-spec =
     child-requires
     loop-less-2
     loop-again-2
-    unbalances-requires-2
-    loop-less-3
-    loop-again-3
-    grown-requires-2
-    store-requires-2
-    child-requires-2
-    loop-less-4
-    loop-again-4
-    same-length-5
-    returns-5)
+    same-length-4
+    returns-4)

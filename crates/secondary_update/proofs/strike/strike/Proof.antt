@@ -1,47 +1,62 @@
 use borrow.Author.Needs.{needs}
 use Rattle.secondary_update.proofs.strike.strike.Statement.{statement}
 use Rattle.secondary_update.specs.Strike.{auxiliaryStrike♯, strikeFrom}
-use borrow.Author.Tests.{le-ltb, lt-ltb}
 use Rattle.secondary_update.proofs.strike.strike.Tie as tie
+use Rattle.secondary_update.proofs.strike.strike.Reads as reads
+use Rattle.secondary_update.proofs.strike.strike.Lts as lts
+use Rattle.nodes.proofs.primary.PrimaryRecord.load_auxiliary.Reads as load-auxiliary-reads
+use Rattle.nodes.proofs.secondary.SecondaryRecord.lacks_level.Reads as lacks-level-reads
+use Rattle.secondary_update.proofs.strike.damaged.Reads as damaged-reads
+use Rattle.secondary_update.proofs.strike.strike_beneath.Reads as strike-beneath-reads
 
--- src/strike.rt:153:36
-mul-if1 : tie.Need-mul-if1
-mul-if1 c = search needs
+-- src/strike.rt:160:8
+lacks-level-requires : tie.Need-lacks-level-requires
+lacks-level-requires c κs = search needs
 
--- src/strike.rt:153:18
-add-if1 : tie.Need-add-if1
-add-if1 c = search needs
-
--- src/strike.rt:154:9
+-- src/strike.rt:161:9
 damaged-requires : tie.Need-damaged-requires
 damaged-requires c κs = search needs
 
--- src/strike.rt:154:9
-returns : tie.Need-returns
-unfolding auxiliaryStrike♯ strikeFrom
-returns c = rw (lt-ltb _ _ (c .before .if1 .taken), ← c .damaged .ensures)
-
--- src/strike.rt:156:9
-load-auxiliary-requires : tie.Need-load-auxiliary-requires
-load-auxiliary-requires c κs = search needs
-
--- src/strike.rt:157:5
-strike-beneath-requires : tie.Need-strike-beneath-requires
-strike-beneath-requires c κs = search needs
-
--- src/strike.rt:149:1
+-- src/strike.rt:161:9
 same-length : tie.Need-same-length
 same-length c = search needs
 
--- src/strike.rt:149:1
+-- src/strike.rt:161:9
+returns : tie.Need-returns
+unfolding auxiliaryStrike♯ strikeFrom
+returns c = rw (
+  ← c .before .before .lacks-level .ensures .0,
+  c .before .if1 .taken,
+  ← c .damaged .ensures,
+)
+
+-- src/strike.rt:163:9
+load-auxiliary-requires : tie.Need-load-auxiliary-requires
+load-auxiliary-requires c κs = search needs
+
+-- src/strike.rt:164:5
+strike-beneath-requires : tie.Need-strike-beneath-requires
+strike-beneath-requires c κs =
+    let at-if1 = c .before .before .before in
+    let at-lacks-level = at-if1 .before in
+    let at-start = at-lacks-level .before .before .before in
+    (at-start .pre .1, at-lacks-level .lacks-level .ensures .1 (at-if1 .if1 .left))
+
+-- src/strike.rt:156:1
+same-length-2 : tie.Need-same-length-2
+same-length-2 c = search needs
+
+-- src/strike.rt:156:1
 returns-2 : tie.Need-returns-2
 unfolding auxiliaryStrike♯ strikeFrom
 returns-2 c =
     let at-strike-beneath = c .before .before in
     let at-load-auxiliary = at-strike-beneath .before .before in
     let at-if1 = at-load-auxiliary .before .before in
+    let at-lacks-level = at-if1 .before in
     rw (
-      le-ltb _ _ (at-if1 .if1 .left),
+      ← at-lacks-level .lacks-level .ensures .0,
+      at-if1 .if1 .left,
       ← at-load-auxiliary .load-auxiliary .ensures,
       ← at-strike-beneath .strike-beneath .ensures,
     )
@@ -50,11 +65,11 @@ pub strike-spec : {M : Type 1} → statement M
 strike-spec =
     tie.close
     (tie.spec
-    mul-if1
-    add-if1
+    lacks-level-requires
     damaged-requires
+    same-length
     returns
     load-auxiliary-requires
     strike-beneath-requires
-    same-length
+    same-length-2
     returns-2)

@@ -1,0 +1,41 @@
+use borrow.Author.Needs.{needs}
+use Rattle.nodes.proofs.primary.PrimaryRecord.way.Statement.{statement}
+use Rattle.nodes.specs.Ways.{wayAt}
+use Rattle.nodes.specs.Arms.{wayOf}
+use Rattle.nodes.proofs.primary.PrimaryRecord.way.Tie as tie
+use Rattle.nodes.proofs.primary.PrimaryRecord.way.Reads as reads
+use Rattle.nodes.proofs.primary.PrimaryRecord.way.Lts as lts
+use Rattle.geometry.proofs.Mark.below_x.Reads as below-x-reads
+use Rattle.nodes.proofs.primary.PrimaryRecord.load.Reads as primary-PrimaryRecord-load-reads
+use Rattle.table.proofs.slots.load.Reads as slots-load-reads
+
+-- src/primary.rt:196:13
+load-requires : tie.Need-load-requires
+load-requires c κs = search needs
+
+-- src/primary.rt:199:22
+load-requires-2 : tie.Need-load-requires-2
+load-requires-2 c κs = search needs
+
+-- src/primary.rt:199:12
+below-x-requires : tie.Need-below-x-requires
+below-x-requires c κs = search needs
+
+-- src/primary.rt:200:13
+returns : tie.Need-returns
+unfolding wayAt wayOf
+returns c =
+    let at-load2 = c .before .before in
+    let at-load = at-load2 .before .before .before in
+    rw (← at-load .load .ensures, ← at-load2 .load2 .ensures, ← c .before .below-x .ensures, c .if1 .taken)
+
+-- src/primary.rt:192:5
+returns-2 : tie.Need-returns-2
+unfolding wayAt wayOf
+returns-2 c =
+    let at-load2 = c .before .before in
+    let at-load = at-load2 .before .before .before in
+    rw (← at-load .load .ensures, ← at-load2 .load2 .ensures, ← c .before .below-x .ensures, c .if1 .left)
+
+pub way-spec : {M : Type 1} → statement M
+way-spec = tie.close (tie.spec load-requires load-requires-2 below-x-requires returns returns-2)

@@ -1,0 +1,41 @@
+use borrow.Author.Needs.{needs}
+use Rattle.nodes.proofs.secondary.SecondaryRecord.way.Statement.{statement}
+use Rattle.nodes.specs.Ways.{wayAt}
+use Rattle.nodes.specs.Arms.{wayOf}
+use Rattle.nodes.proofs.secondary.SecondaryRecord.way.Tie as tie
+use Rattle.nodes.proofs.secondary.SecondaryRecord.way.Reads as reads
+use Rattle.nodes.proofs.secondary.SecondaryRecord.way.Lts as lts
+use Rattle.geometry.proofs.Mark.below_y.Reads as below-y-reads
+use Rattle.nodes.proofs.secondary.SecondaryRecord.load.Reads as secondary-SecondaryRecord-load-reads
+use Rattle.table.proofs.slots.load.Reads as slots-load-reads
+
+-- src/secondary.rt:208:13
+load-requires : tie.Need-load-requires
+load-requires c κs = search needs
+
+-- src/secondary.rt:211:22
+load-requires-2 : tie.Need-load-requires-2
+load-requires-2 c κs = search needs
+
+-- src/secondary.rt:211:12
+below-y-requires : tie.Need-below-y-requires
+below-y-requires c κs = search needs
+
+-- src/secondary.rt:212:13
+returns : tie.Need-returns
+unfolding wayAt wayOf
+returns c =
+    let at-load2 = c .before .before in
+    let at-load = at-load2 .before .before .before in
+    rw (← at-load .load .ensures, ← at-load2 .load2 .ensures, ← c .before .below-y .ensures, c .if1 .taken)
+
+-- src/secondary.rt:204:5
+returns-2 : tie.Need-returns-2
+unfolding wayAt wayOf
+returns-2 c =
+    let at-load2 = c .before .before in
+    let at-load = at-load2 .before .before .before in
+    rw (← at-load .load .ensures, ← at-load2 .load2 .ensures, ← c .before .below-y .ensures, c .if1 .left)
+
+pub way-spec : {M : Type 1} → statement M
+way-spec = tie.close (tie.spec load-requires load-requires-2 below-y-requires returns returns-2)
