@@ -5,10 +5,10 @@ use mathlib.Core.Path.{_≡_, refl}
 use mathlib.Core.Bool.{Bool, true, false, and-comm}
 use native.Mathlib.Omega.{arith}
 use lib.Dec.{leb}
-use borrow.Author.Tests.{lt-leb, le-leb}
+use borrow.Author.Tests.{lt-leb, le-leb, lt-ltb, le-ltb, leb-true, leb-false}
 use Rattle.model.proofs.Logic.{and-right}
 use Rattle.nodes.specs.Arms.{Record, wayOf}
-use Rattle.nodes.specs.Weights.{isHeavy, balanced}
+use Rattle.nodes.specs.Weights.{isHeavy, balanced, unbalances}
 
 pub balanced-swap : (l r : ℕ) → balanced l r ≡ balanced r l
 balanced-swap l r = let e : l + r ≡ r + l = omega arith in rw e (and-comm (leb (r + l) (4 * l)) (leb (r + l) (4 * r)))
@@ -18,9 +18,17 @@ unfolding wayOf
 way-weight p true = refl
 way-weight p false = omega arith
 
--- a child of weight w that is heavy and gains a mark stays so
-pub balanced-more : (w v c : ℕ) → w + v ≤ 4 * w → c ≡ w + 1 → balanced c v ≡ isHeavy v c
-balanced-more w v c h e = let z : v + c ≡ c + v = omega arith in rw (z, le-leb (c + v) (4 * c) (omega arith))
+-- a child of weight w that is heavy and gains a mark stays so: where the node is not balanced then, or is, its sibling tells
+pub unbalances-uneven : (w v c : ℕ) → w + v ≤ 4 * w → c ≡ w + 1 → balanced c v ≡ false → unbalances true w v ≡ true
+unfolding unbalances
+unbalances-uneven w v c h e u =
+    let light = (rw (le-leb (c + v) (4 * c) (omega arith)) at u) in
+    lt-ltb (4 * v) (v + w + 1) (omega (arith, leb-false (c + v) (4 * v) light))
+
+pub unbalances-even : (w v c : ℕ) → c ≡ w + 1 → balanced c v ≡ true → unbalances true w v ≡ false
+unfolding unbalances
+unbalances-even w v c e t =
+    le-ltb (4 * v) (v + w + 1) (omega (arith, leb-true (c + v) (4 * v) (and-right (leb (c + v) (4 * c)) (leb (c + v) (4 * v)) t)))
 
 -- beside a child that loses a mark, a sibling of weight v that is heavy stays so
 pub balanced-less : (w v c : ℕ) → w + v ≤ 4 * v → c + 1 ≡ w → balanced c v ≡ isHeavy c v
@@ -29,7 +37,3 @@ balanced-less w v c h e = rw (and-comm (leb (c + v) (4 * c)) (leb (c + v) (4 * v
 -- a child that loses its last mark is not heavy
 pub heavy-none : (v : ℕ) → 0 < v → isHeavy 0 v ≡ false
 heavy-none v h = lt-leb (0 + v) (4 * 0) (omega arith)
-
--- both children of a balanced node are heavy
-pub balanced-heavy : (c v : ℕ) → balanced c v ≡ true → isHeavy v c ≡ true
-balanced-heavy c v e = let z : v + c ≡ c + v = omega arith in rw z (and-right (leb (c + v) (4 * c)) (leb (c + v) (4 * v)) e)

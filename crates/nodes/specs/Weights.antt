@@ -1,7 +1,7 @@
 -- Weights of nodes: their sums, and the balance of a node over two trees. Assumes nothing.
 use Prim.Native.Nat.{ℕ, _+_, _*_, _%_}
-use mathlib.Core.Bool.{Bool, false, not, _&&_}
-use lib.Dec.{leb}
+use mathlib.Core.Bool.{Bool, false, _&&_}
+use lib.Dec.{leb, ltb}
 use Rattle.model.specs.Lists.{if_then_else_}
 
 -- the sum of two weights, which are far below 2^32
@@ -18,4 +18,4 @@ balanced l r = leb (l + r) (4 * l) && leb (l + r) (4 * r)
 
 -- where a balanced node is to be mended: it is not balanced with one mark more in the child of weight w, whose sibling can only become too light
 unfoldable pub unbalances : Bool → ℕ → ℕ → Bool
-unbalances mends w sibling = if mends then not (isHeavy sibling (sum w 1)) else false
+unbalances mends w sibling = if mends then ltb (4 * sibling) (sibling + w + 1) else false

@@ -59,7 +59,7 @@ pub fn unbalances(mends: bool, w: u32, sibling: u32) -> bool
     ensures { λ a. ⌜ a ≡ unbalances mends w sibling ⌝ }
 {
     if mends {
-        return !is_heavy(sibling, sum(w, 1));
+        return 4 * (sibling as u64) < (sibling as u64) + (w as u64) + 1;
     }
     false
 }

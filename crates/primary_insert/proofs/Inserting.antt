@@ -24,8 +24,7 @@ use Rattle.table.specs.Limits.{deepest, damaged}
 use Rattle.table.specs.Marks.{slotMark}
 use Rattle.nodes.specs.Arms.{Arm, Record, arms, Way, wayOf, grownArm, armAt, putArm, childAt}
 use Rattle.nodes.specs.Ways.{wayAt}
-use Rattle.nodes.specs.Weights.{sum, unbalances}
-use Rattle.nodes.proofs.Balance.{balanced-swap, balanced-more, balanced-heavy, way-weight}
+use Rattle.nodes.proofs.Balance.{balanced-swap, unbalances-even, unbalances-uneven, way-weight}
 use Rattle.nodes.specs.Holds.{armOf, timesIn, times}
 use Rattle.table.specs.After.{After}
 use Rattle.nodes.proofs.Frames.{putArm-same}
@@ -41,7 +40,7 @@ use Rattle.twofold_layout.proofs.Over.{TwoLeavesAt, two-left, two-right, top-le
 use Rattle.twofold_layout.proofs.Rules.{rules-left, rules-right}
 use Rattle.secondary_update.specs.Insert.{auxiliaryInsert♯}
 use Rattle.secondary_update.proofs.Inserting.{insert-times, insert-weight, insert-least, insert-names}
-use Rattle.secondary_update.proofs.Inserting.{rebuilt-weight, sum-one, grown-arm, leaf-held, grown-within}
+use Rattle.secondary_update.proofs.Inserting.{rebuilt-weight, grown-arm, leaf-held, grown-within}
 use Rattle.primary_insert.specs.Insert.{mainLeaf♯, mainAfresh♯, grow♯, MainInsertion, insertOn, insertBeneath♯, insertRoot, mainInsert♯}
 use Rattle.primary_insert.specs.Insert.{mainInsertChild, mainInsertWay, mainInsertArm, mainInsertNode}
 use Rattle.twofold_layout.proofs.Beneath.{beneath-record, beneath-two}
@@ -232,44 +231,32 @@ module _ (f : ℕ → Mark) (C s : ℕ) (small : C ≤ 65536) (inC : s < C) wher
           eq-eqb (v .child .weight + v .sibling .weight) (weight l + weight r) (way-weight p left),
         )
 
-    next-left : sum (weight l) 1 ≡ weight (grow f s l)
-    next-left = sum-one (weight l) (omega (arith, held-weight (k .held .main))) ∙ sym (insert-weight (X f) (R f) s l)
-
-    next-right : sum (weight r) 1 ≡ weight (grow f s r)
-    next-right = sum-one (weight r) (omega (arith, held-weight (k .held .main))) ∙ sym (insert-weight (X f) (R f) s r)
-
     afresh-left : evenly (grow f s l) r ≡ false → Onward true ≡ mainAfresh♯ C (f s) s (levelPlace C d) at xs
-    unfolding mainInsertChild wayOf unbalances
+    unfolding mainInsertChild wayOf
     afresh-left u =
-        rw (next-left, ← balanced-more (weight l) (weight r) (weight (grow f s l)) (k .rules .balanced .0) (insert-weight (X f) (R f) s l), u)
+        rw (unbalances-uneven (weight l) (weight r) (weight (grow f s l)) (k .rules .balanced .0) (insert-weight (X f) (R f) s l) u)
 
     afresh-right : evenly l (grow f s r) ≡ false → Onward false ≡ mainAfresh♯ C (f s) s (levelPlace C d) at xs
-    unfolding mainInsertChild wayOf unbalances
+    unfolding mainInsertChild wayOf
     afresh-right u =
-        rw (
-          next-right,
-          ← balanced-more (weight r) (weight l) (weight (grow f s r)) (omega (arith, k .rules .balanced .1)) (insert-weight (X f) (R f) s r),
-          balanced-swap (weight (grow f s r)) (weight l),
-          u,
-        )
+        let uneven = balanced-swap (weight (grow f s r)) (weight l) ∙ u in
+        rw (unbalances-uneven (weight r) (weight l) (weight (grow f s r)) (omega (arith, k .rules .balanced .1)) (insert-weight (X f) (R f) s r) uneven)
 
     module _ (low : d < D C) where
       way-left : evenly (grow f s l) r ≡ true → Onward true ≡ rec (levelPlace C (suc d)) (mainPlace (least r)) (handed i l r k low .words)
-      unfolding mainInsertChild wayOf unbalances childAt grow♯ insertOn
+      unfolding mainInsertChild wayOf childAt grow♯ insertOn
       way-left t =
           rw (
-            next-left,
-            balanced-heavy (weight (grow f s l)) (weight r) t,
+            unbalances-even (weight l) (weight r) (weight (grow f s l)) (insert-weight (X f) (R f) s l) t,
             ne-eqb (handed i l r k low .out) damaged (handed-grown i l r k low .sound),
             deeper-level C d small (omega (arith, most-levels C small)),
           )
 
       way-right : evenly l (grow f s r) ≡ true → Onward false ≡ rec (levelPlace C (suc d)) (mainPlace (least r) + 4) (handed i l r k low .words)
-      unfolding mainInsertChild wayOf unbalances childAt grow♯ insertOn
+      unfolding mainInsertChild wayOf childAt grow♯ insertOn
       way-right t =
           rw (
-            next-right,
-            balanced-heavy (weight (grow f s r)) (weight l) (balanced-swap (weight (grow f s r)) (weight l) ∙ t),
+            unbalances-even (weight r) (weight l) (weight (grow f s r)) (insert-weight (X f) (R f) s r) (balanced-swap (weight (grow f s r)) (weight l) ∙ t),
             ne-eqb (handed i l r k low .out) damaged (handed-grown i l r k low .sound),
             deeper-level C d small (omega (arith, most-levels C small)),
           )

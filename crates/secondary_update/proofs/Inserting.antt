@@ -24,8 +24,8 @@ use Rattle.table.specs.Limits.{damaged, noSlot}
 use Rattle.table.specs.Marks.{slotMark}
 use Rattle.nodes.specs.Arms.{Arm, arm, Record, arms, Way, wayOf, grownArm, armAt, putArm, childAt}
 use Rattle.nodes.specs.Ways.{wayAt}
-use Rattle.nodes.specs.Weights.{sum, unbalances}
-use Rattle.nodes.proofs.Balance.{balanced-swap, balanced-more, balanced-heavy, way-weight}
+use Rattle.nodes.specs.Weights.{sum}
+use Rattle.nodes.proofs.Balance.{balanced-swap, unbalances-even, unbalances-uneven, way-weight}
 use Rattle.table.specs.Words.{lesser, greater}
 use Rattle.nodes.specs.Holds.{number, armOf, times, Held}
 use Rattle.table.specs.After.{After, after}
@@ -39,6 +39,7 @@ use Rattle.secondary_build.proofs.Building.{rebuild-holds}
 use Rattle.secondary_update.specs.Insert.{nodeAt, split♯, putFresh, rebuiltAt, afresh♯}
 use Rattle.secondary_update.specs.Insert.{Insertion, insertAfresh, insertChild, insertWay, insertArm, insertNode, insert♯}
 use Rattle.secondary_update.proofs.Mending.{mended, figure, MayMend}
+use Rattle.secondary_update.proofs.Steps.{not-mending}
 use Rattle.secondary_update.proofs.Mended.{mended-marks, mended-times, mended-weight, mended-least, mayMend-left, mayMend-right}
 use Rattle.secondary_update.proofs.Node.{node-leaves}
 
@@ -436,40 +437,32 @@ module _ {I : Type 0} (A : Axis Mark Box) (f : ℕ → Mark) (R : Register ℕ B
             eq-eqb (v .child .weight + v .sibling .weight) (weight l + weight r) (way-weight p left),
           )
 
-      next-left : sum (weight l) 1 ≡ weight (grow l)
-      next-left = sum-one (weight l) (omega (arith, held-weight (held-left (k .held)), k .region .small)) ∙ sym (insert-weight X R s l)
-
-      next-right : sum (weight r) 1 ≡ weight (grow r)
-      next-right = sum-one (weight r) (omega (arith, held-weight (held-right (k .held)), k .region .small)) ∙ sym (insert-weight X R s r)
-
       module _ (rec : Insertion) where
         abbrev Onward : Bool → Bool → After ℕ
         Onward left mends =
             insertChild A rec C place (f s) (least r) (wayOf (arms (armOf A f l) (armOf A f r)) left) mends at (armOf A f (node i l r)) xs
 
         way-left : (mends : Bool) → Steady X R here (grow l) r mends → Onward true mends ≡ rec mends (place (least r)) widened
-        unfolding insertChild wayOf unbalances childAt
-        way-left true t = rw (next-left, balanced-heavy (weight (grow l)) (weight r) (t refl))
-        way-left false t = refl
+        unfolding insertChild wayOf childAt
+        way-left true t = rw (unbalances-even (weight l) (weight r) (weight (grow l)) (insert-weight X R s l) (t refl))
+        way-left false t = rw (not-mending (weight l) (weight r))
 
         way-right : (mends : Bool) → Steady X R here l (grow r) mends → Onward false mends ≡ rec mends (place (least r) + 4) widened
-        unfolding insertChild wayOf unbalances childAt
-        way-right true t = rw (next-right, balanced-heavy (weight (grow r)) (weight l) (balanced-swap (weight (grow r)) (weight l) ∙ t refl))
-        way-right false t = refl
+        unfolding insertChild wayOf childAt
+        way-right true t =
+            let even = balanced-swap (weight (grow r)) (weight l) ∙ t refl in
+            rw (unbalances-even (weight r) (weight l) (weight (grow r)) (insert-weight X R s r) even)
+        way-right false t = rw (not-mending (weight r) (weight l))
 
         afresh-left : Balanced (node i l r) → evenly (grow l) r ≡ false → Onward true true ≡ insertAfresh A rec C place at xs
-        unfolding insertChild wayOf unbalances
-        afresh-left b u = rw (next-left, ← balanced-more (weight l) (weight r) (weight (grow l)) (b .0) (insert-weight X R s l), u)
+        unfolding insertChild wayOf
+        afresh-left b u = rw (unbalances-uneven (weight l) (weight r) (weight (grow l)) (b .0) (insert-weight X R s l) u)
 
         afresh-right : Balanced (node i l r) → evenly l (grow r) ≡ false → Onward false true ≡ insertAfresh A rec C place at xs
-        unfolding insertChild wayOf unbalances
+        unfolding insertChild wayOf
         afresh-right b u =
-            rw (
-              next-right,
-              ← balanced-more (weight r) (weight l) (weight (grow r)) (omega (arith, b .1)) (insert-weight X R s r),
-              balanced-swap (weight (grow r)) (weight l),
-              u,
-            )
+            let uneven = balanced-swap (weight (grow r)) (weight l) ∙ u in
+            rw (unbalances-uneven (weight r) (weight l) (weight (grow r)) (omega (arith, b .1)) (insert-weight X R s r) uneven)
 
         -- where mending is asked and the node will not be even, its tree is grown without mending, and then built afresh
         module _ (shallow : depth (node i l r) + 1 < 40) where

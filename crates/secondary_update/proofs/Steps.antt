@@ -27,3 +27,7 @@ pub was-mending : (mends : Bool) (w sibling : ℕ) → unbalances mends w siblin
 unfolding unbalances
 was-mending true w sibling e = refl
 was-mending false w sibling e = e
+
+pub not-mending : (w sibling : ℕ) → unbalances false w sibling ≡ false
+unfolding unbalances
+not-mending w sibling = refl
