@@ -57,6 +57,7 @@ def faults_of(edit):
 def refused_places(log, room):
     """The files of the crate that the prover refused by an error of their own, each by itself and with each need that was refused."""
     places = set()
+    log = re.sub(r'\n  +', ' ', log)  # the prover breaks long lines
     own = [(file, need) for file, need, what in ERROR.findall(log) if not any(words in what for words in NOT_ITS_OWN)]
     for file, need in own + WITHOUT_FILE.findall(log):
         if file.startswith(room + '/'):
