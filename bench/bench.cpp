@@ -1,19 +1,20 @@
 // bench N TRIALS REPEATS [PEER...]: every peer, or those named, does the work for N marks; a line for each stage of each peer goes to standard output:
-//   peer,n,stage,operations,ns per operation,sum of answers,sum of visits,most visits
+//   peer,n,stage,operations,ns per operation,sum of answers,sum of the sums of grades,sum of the worst grades,sum of visits,most visits
 // The answers are counts, or for a change what was rebuilt. The peers take turns, and a stage's time is the least of its repeats. Status 1 where two peers that
 // tell the same thing differ, 2 for arguments that make no sense. Under valgrind each stage is dumped by name, with one PEER and one repeat.
 #include "peers.hpp"
 
 #include <algorithm>
 #include <chrono>
+#include <cinttypes>
 #include <cstdio>
 #include <string>
 #include <valgrind/callgrind.h>
 
 struct Stage {
     double ns = 1e300;
-    uint64_t operations = 0, answers = 0, visits = 0;
-    uint64_t digest = 0;  // of every single count, in order; made apart from the clock
+    uint64_t operations = 0, answers = 0, sums = 0, worsts = 0, visits = 0;
+    uint64_t digest = 0;  // of every single count, sum and worst, in order; made apart from the clock
     uint32_t most = 0;
 };
 
@@ -69,11 +70,16 @@ template <class Peer> Stages run(const Work &work) {
             for (Pane pane : work.panes[k]) {
                 Counted c = peer.count(pane);
                 m.stage.answers += c.marks;
+                m.stage.sums += c.sum;
+                m.stage.worsts += c.worst;
                 m.stage.visits += c.visits;
                 if (m.stage.most < c.visits) m.stage.most = c.visits;
             }
         });
-        for (Pane pane : work.panes[k]) m.stage.digest = 31 * m.stage.digest + peer.count(pane).marks;
+        for (Pane pane : work.panes[k]) {
+            Counted c = peer.count(pane);
+            for (uint32_t figure : {c.marks, c.sum, c.worst}) m.stage.digest = 31 * m.stage.digest + figure;
+        }
         finish(stages, "count " + std::to_string(PANE_SIDES[k]) + " cm", m);
     }
     return stages;
@@ -110,6 +116,7 @@ static int compare(const std::vector<Peer> &peers) {
             const Stage &a = first.best[i].second, &b = p.best[i].second;
             bool counts = name.compare(0, 5, "count") == 0, told = p.tells && first.tells;
             if ((counts || told) && (a.answers != b.answers || a.digest != b.digest)) return fail(p.name, name, "answers");
+            if (counts && (a.sums != b.sums || a.worsts != b.worsts)) return fail(p.name, name, "grades");
             if (told && (a.visits != b.visits || a.most != b.most)) return fail(p.name, name, "visits");
         }
     return 0;
@@ -128,8 +135,8 @@ static std::vector<Peer> choose(const std::vector<std::string> &names) {
 
 static void print(const Peer &p, uint32_t n) {
     for (const auto &[name, s] : p.best)
-        printf("%s,%u,%s,%llu,%.2f,%llu,%llu,%u\n", p.name, n, name.c_str(), static_cast<unsigned long long>(s.operations), s.ns,
-               static_cast<unsigned long long>(s.answers), static_cast<unsigned long long>(s.visits), s.most);
+        printf("%s,%u,%s,%" PRIu64 ",%.2f,%" PRIu64 ",%" PRIu64 ",%" PRIu64 ",%" PRIu64 ",%u\n", p.name, n, name.c_str(), s.operations, s.ns, s.answers,
+               s.sums, s.worsts, s.visits, s.most);
 }
 
 int main(int argc, char **argv) {

@@ -31,7 +31,7 @@ struct Table {
     void open() { accept(register_open(words.data(), words.size(), capacity, &live)); }
 
     void insert(const std::vector<Mark> &marks) {
-        for (Mark m : marks) accept(register_insert(words.data(), words.size(), m.x, m.y, m.tag, &live, &rebuilt));
+        for (Mark m : marks) accept(register_insert(words.data(), words.size(), m.x, m.y, m.tag, m.grade, &live, &rebuilt));
     }
 
     void strike(const std::vector<Mark> &marks) {
@@ -58,10 +58,10 @@ public:
 
     size_t words() const { return first.words.size(); }
 
-    // docs/LAYOUT.md: the levels are 16 C words each, from word 64 + 32 C on.
+    // docs/LAYOUT.md: the levels are 24 C words each, from word 64 + 40 C on.
     Written look() const {
         Written w;
-        size_t levels = 64 + 32 * size_t(first.capacity), level = 16 * size_t(first.capacity), page = SIZE_MAX;
+        size_t levels = 64 + 40 * size_t(first.capacity), level = 24 * size_t(first.capacity), page = SIZE_MAX;
         for (size_t i = 0; i < words(); i++) {
             if (!written(i)) continue;
             w.words++;
@@ -99,7 +99,7 @@ static void print(uint32_t n) {
         }
     });
     Written rounds = pair.look();
-    size_t words = pair.words(), pages = (words + PAGE_WORDS - 1) / PAGE_WORDS, levels = ((words - 64) / n - 32) / 16;
+    size_t words = pair.words(), pages = (words + PAGE_WORDS - 1) / PAGE_WORDS, levels = ((words - 64) / n - 40) / 24;
     printf("%u,%zu,%zu,%zu,%zu,%zu,%zu,%zu,%zu,%zu,%zu,%.0f\n", n, words, open.words, fill.words, rounds.words, pages, open.pages, fill.pages, rounds.pages,
            levels, rounds.levels, ns_per_open(n));
 }

@@ -1,5 +1,5 @@
-// The peers: each holds marks and counts those of a pane. Only the register and its twin tell visits and what was rebuilt, and only they look whether a mark
-// that is inserted is there already.
+// The peers: each holds marks and counts those of a pane, with the sum of their grades and the worst. Only the register and its twin tell visits and what was
+// rebuilt, and only they look whether a mark that is inserted is there already.
 #ifndef PEERS_HPP
 #define PEERS_HPP
 
@@ -7,6 +7,7 @@
 #include "twin.h"
 #include "work.hpp"
 
+#include <algorithm>
 #include <cstdlib>
 #include <utility>
 #include <vector>
@@ -17,10 +18,11 @@
 #pragma GCC diagnostic ignored "-Wmaybe-uninitialized"
 #include <boost/geometry.hpp>
 #include <boost/geometry/index/rtree.hpp>
+#include <boost/iterator/function_output_iterator.hpp>
 #pragma GCC diagnostic pop
 
 struct Counted {
-    uint32_t marks, visits;
+    uint32_t marks = 0, visits = 0, sum = 0, worst = 0;
 };
 
 // The words of a table, touched once before any clock runs.
@@ -42,7 +44,7 @@ public:
 
     uint32_t insert(Mark m) {
         uint32_t live, rebuilt;
-        accept(register_insert(words.data(), words.size(), m.x, m.y, m.tag, &live, &rebuilt));
+        accept(register_insert(words.data(), words.size(), m.x, m.y, m.tag, m.grade, &live, &rebuilt));
         return rebuilt;
     }
 
@@ -54,7 +56,7 @@ public:
 
     Counted count(Pane p) const {
         Counted c;
-        accept(register_count(words.data(), words.size(), p.x1, p.x2, p.y1, p.y2, &c.marks, &c.visits));
+        accept(register_count(words.data(), words.size(), p.x1, p.x2, p.y1, p.y2, &c.marks, &c.visits, &c.sum, &c.worst));
         return c;
     }
 };
@@ -71,7 +73,7 @@ public:
 
     uint32_t insert(Mark m) {
         uint32_t live, rebuilt;
-        accept(twin_insert(words.data(), m.x, m.y, m.tag, &live, &rebuilt));
+        accept(twin_insert(words.data(), m.x, m.y, m.tag, m.grade, &live, &rebuilt));
         return rebuilt;
     }
 
@@ -83,7 +85,7 @@ public:
 
     Counted count(Pane p) const {
         Counted c;
-        accept(twin_count(words.data(), p.x1, p.x2, p.y1, p.y2, &c.marks, &c.visits));
+        accept(twin_count(words.data(), p.x1, p.x2, p.y1, p.y2, &c.marks, &c.visits, &c.sum, &c.worst));
         return c;
     }
 };
@@ -95,70 +97,69 @@ public:
 
     Counted count(Pane p) const {
         Counted c;
-        accept(twin_count_parted(words.data(), p.x1, p.x2, p.y1, p.y2, &c.marks, &c.visits));
+        accept(twin_count_parted(words.data(), p.x1, p.x2, p.y1, p.y2, &c.marks, &c.visits, &c.sum, &c.worst));
         return c;
     }
 };
 
 // Every mark is looked at. A column for each number, which the compiler makes vectors of.
 class Scan {
-    std::vector<uint32_t> x, y, tag;
+    std::vector<uint32_t> x, y, tag, grade;
+
+    template <class Step> void each_column(Step step) {
+        for (std::vector<uint32_t> *column : {&x, &y, &tag, &grade}) step(*column);
+    }
 
 public:
     explicit Scan(uint32_t n) {
-        x.reserve(n);
-        y.reserve(n);
-        tag.reserve(n);
+        each_column([=](auto &column) { column.reserve(n); });
     }
 
     uint32_t insert(Mark m) {
         x.push_back(m.x);
         y.push_back(m.y);
         tag.push_back(m.tag);
+        grade.push_back(m.grade);
         return 0;
     }
 
     uint32_t strike(Mark m) {
         for (size_t i = 0; i < tag.size(); i++)
             if (tag[i] == m.tag && x[i] == m.x && y[i] == m.y) {
-                x[i] = x.back();
-                y[i] = y.back();
-                tag[i] = tag.back();
-                x.pop_back();
-                y.pop_back();
-                tag.pop_back();
+                each_column([=](auto &column) {
+                    column[i] = column.back();
+                    column.pop_back();
+                });
                 return 0;
             }
         abort();
     }
 
     Counted count(Pane p) const {
-        uint32_t marks = 0;
-        for (size_t i = 0; i < x.size(); i++) marks += (p.x1 <= x[i]) & (x[i] <= p.x2) & (p.y1 <= y[i]) & (y[i] <= p.y2);
-        return {marks, 0};
+        Counted c;
+        for (size_t i = 0; i < x.size(); i++) {
+            uint32_t in = (p.x1 <= x[i]) & (x[i] <= p.x2) & (p.y1 <= y[i]) & (y[i] <= p.y2), g = in * grade[i];
+            c.marks += in;
+            c.sum += g;
+            c.worst = std::max(c.worst, g);
+        }
+        return c;
     }
-};
-
-// Counts without keeping what is found.
-struct Nowhere {
-    using iterator_category = std::output_iterator_tag;
-    using value_type = void;
-    using difference_type = void;
-    using pointer = void;
-    using reference = void;
-    Nowhere &operator*() { return *this; }
-    Nowhere &operator++() { return *this; }
-    Nowhere operator++(int) { return *this; }
-    template <class T> Nowhere &operator=(const T &) { return *this; }
 };
 
 template <class Strategy> class Boost {
     using Point = boost::geometry::model::point<uint32_t, 2, boost::geometry::cs::cartesian>;
     using Box = boost::geometry::model::box<Point>;
-    using Value = std::pair<Point, uint32_t>;
+
+    struct Label {
+        uint32_t tag, grade;
+        bool operator==(const Label &other) const { return tag == other.tag; }
+    };
+
+    using Value = std::pair<Point, Label>;
     boost::geometry::index::rtree<Value, Strategy> tree;
 
-    static Value value(Mark m) { return {Point(m.x, m.y), m.tag}; }
+    static Value value(Mark m) { return {Point(m.x, m.y), {m.tag, m.grade}}; }
 
 public:
     explicit Boost(uint32_t) {}
@@ -173,9 +174,16 @@ public:
         return 0;
     }
 
+    // Goes through what is found without keeping it.
     Counted count(Pane p) const {
+        Counted c;
+        auto each = [&c](const Value &v) {
+            c.sum += v.second.grade;
+            c.worst = std::max(c.worst, v.second.grade);
+        };
         Box box(Point(p.x1, p.y1), Point(p.x2, p.y2));
-        return {static_cast<uint32_t>(tree.query(boost::geometry::index::intersects(box), Nowhere())), 0};
+        c.marks = static_cast<uint32_t>(tree.query(boost::geometry::index::intersects(box), boost::make_function_output_iterator(each)));
+        return c;
     }
 };
 

@@ -1,5 +1,5 @@
-// The work that every peer does: marks in rows of scratches and single stones, strikes and insertions again, and trial panes of three sizes. The same numbers
-// come out on every machine.
+// The work that every peer does: graded marks in rows of scratches and single stones, strikes and insertions again, and trial panes of three sizes. The same
+// numbers come out on every machine.
 #ifndef WORK_HPP
 #define WORK_HPP
 
@@ -7,7 +7,7 @@
 #include <vector>
 
 struct Mark {
-    uint32_t x, y, tag;
+    uint32_t x, y, tag, grade;
 };
 
 struct Pane {
@@ -17,6 +17,7 @@ struct Pane {
 constexpr uint32_t SHEET = 1000000;  // hundredths of a millimetre: ten metres
 constexpr uint32_t CENTIMETRE = 1000;
 constexpr uint32_t PANE_SIDES[] = {3, 30, 300};  // in centimetres
+constexpr uint32_t WORST_GRADE = 100;            // the best is 1
 constexpr uint32_t ROUNDS = 4;                   // of strikes and insertions again
 
 class Random {
@@ -35,17 +36,17 @@ public:
     uint32_t below(uint32_t n) { return static_cast<uint32_t>(next() % n); }
 };
 
-// A camera's marks without end: one entry in five is a single stone, the others are scratches of 8 to 39 marks along a line, up to 3 mm apart in x and in y. The
-// tags are all different, so no mark comes twice.
+// A camera's marks without end: one entry in five is a single stone, the others are scratches of 8 to 39 marks along a line, up to 3 mm apart in x and in y.
+// The tags are all different, so no mark comes twice. The grades have random numbers of their own: where the marks lie does not depend on them.
 class Camera {
-    Random random;
+    Random random, grades;
     uint32_t tag = 0, left = 0;
     int64_t x = 0, y = 0, dx = 0, dy = 0;
 
     static uint32_t on_sheet(int64_t v) { return v < 0 ? 0 : v >= SHEET ? SHEET - 1 : static_cast<uint32_t>(v); }
 
 public:
-    explicit Camera(uint64_t seed) : random(seed) {}
+    explicit Camera(uint64_t seed) : random(seed), grades(~seed) {}
 
     Mark next() {
         if (left == 0) {
@@ -56,7 +57,7 @@ public:
             dy = static_cast<int64_t>(random.below(601)) - 300;
         }
         left--;
-        Mark m = {on_sheet(x), on_sheet(y), tag++};
+        Mark m = {on_sheet(x), on_sheet(y), tag++, 1 + grades.below(WORST_GRADE)};
         x += dx + random.below(21) - 10;
         y += dy + random.below(21) - 10;
         return m;
