@@ -1,7 +1,8 @@
 /* The register of marks on a glass sheet: the C interface of the proved library libmarkregister.a.
  *
- * A mark is x, y, tag: x and y count hundredths of a millimetre, 0 to 999,999, and the tag is any
- * word. Two marks are the same only if all three agree. A box is x1, x2, y1, y2, any words with
+ * A mark is x, y, tag and a grade: x and y count hundredths of a millimetre, 0 to 999,999, the tag
+ * is any word, and the grade is 1 to 100, 100 the worst. Two marks are the same exactly if x, y and tag
+ * agree: the grade is no part of that, nor of any order. A box is x1, x2, y1, y2, any words with
  * x1 <= x2 and y1 <= y2. It holds a mark when x1 <= x <= x2 and y1 <= y <= y2.
  *
  * A table is a run of words that the caller lends to each call, register_words(capacity) of them or
@@ -34,27 +35,29 @@
 extern "C" {
 #endif
 
-/* What a call returns. */
+/* What a call returns. 11 is no call's: the program `sheet` prints it for what is no line. */
 enum {
     REGISTER_OK = 0,
-    REGISTER_CAPACITY = 1,     /* the capacity is 0 or above REGISTER_LARGEST_CAPACITY */
-    REGISTER_SHORT_TABLE = 2,  /* the table has fewer than register_words(capacity) words */
-    REGISTER_NOT_A_TABLE = 3,  /* not an open table: fewer than 96 words, word 0 not 1, a capacity
-                                  out of range, too few words for it, or more live marks than it */
-    REGISTER_UNSOUND = 4,      /* the words of the table hold no tree, or tell of more marks than are
-                                  live */
-    REGISTER_MARK_OUTSIDE = 5, /* x or y is above REGISTER_LARGEST_COORDINATE */
-    REGISTER_BOX_CROSSED = 6,  /* x1 > x2 or y1 > y2 */
-    REGISTER_FULL = 7,         /* as many marks are live as the capacity says */
-    REGISTER_PRESENT = 8,      /* the same mark is live */
-    REGISTER_ABSENT = 9,       /* no such mark is live */
-    REGISTER_SHORT_LIST = 10   /* a list has fewer than three words for each mark of the box */
+    REGISTER_CAPACITY = 1,      /* the capacity is 0 or above REGISTER_LARGEST_CAPACITY */
+    REGISTER_SHORT_TABLE = 2,   /* the table has fewer than register_words(capacity) words */
+    REGISTER_NOT_A_TABLE = 3,   /* not an open table: fewer than 104 words, word 0 not 1, a capacity
+                                   out of range, too few words for it, or more live marks than it */
+    REGISTER_UNSOUND = 4,       /* the words of the table hold no tree, or tell of more marks than
+                                   are live */
+    REGISTER_MARK_OUTSIDE = 5,  /* x or y is above REGISTER_LARGEST_COORDINATE */
+    REGISTER_BOX_CROSSED = 6,   /* x1 > x2 or y1 > y2 */
+    REGISTER_FULL = 7,          /* as many marks are live as the capacity says */
+    REGISTER_PRESENT = 8,       /* the same mark is live, whatever its grade */
+    REGISTER_ABSENT = 9,        /* no such mark is live */
+    REGISTER_SHORT_LIST = 10,   /* a list has fewer than four words for each mark of the box */
+    REGISTER_GRADE_OUTSIDE = 12 /* the grade is 0 or above REGISTER_LARGEST_GRADE */
 };
 
 enum {
     REGISTER_LARGEST_CAPACITY = 65536,
     REGISTER_LARGEST_COORDINATE = 999999,
-    REGISTER_MARK_WORDS = 3 /* of a list, for each mark: x, y, tag */
+    REGISTER_LARGEST_GRADE = 100,
+    REGISTER_MARK_WORDS = 4 /* of a list, for each mark: x, y, tag, grade */
 };
 
 /* The words that a table for `capacity` marks needs, so that a caller can size the run it lends;
@@ -66,42 +69,45 @@ size_t register_words(uint32_t capacity);
  * *live: 0. */
 uint32_t register_open(uint32_t *table, size_t words, uint32_t capacity, uint32_t *live);
 
-/* Enters a mark.
- * Refuses by: REGISTER_NOT_A_TABLE, REGISTER_MARK_OUTSIDE, REGISTER_PRESENT, REGISTER_FULL;
- * REGISTER_UNSOUND.
+/* Enters a mark. The same mark with another grade is refused too, and the live one keeps its own:
+ * to grade a mark anew, strike it off first.
+ * Refuses by: REGISTER_NOT_A_TABLE, REGISTER_MARK_OUTSIDE, REGISTER_GRADE_OUTSIDE,
+ * REGISTER_PRESENT, REGISTER_FULL; REGISTER_UNSOUND.
  * *live: the live marks, this one among them. *rebuilt: how many marks the part of the tree had that
  * was built afresh to keep it balanced, mostly 0. */
 uint32_t register_insert(uint32_t *table, size_t words, uint32_t x, uint32_t y, uint32_t tag,
-                         uint32_t *live, uint32_t *rebuilt);
+                         uint32_t grade, uint32_t *live, uint32_t *rebuilt);
 
-/* Strikes a mark off. Its room is used again.
+/* Strikes a mark off, whatever its grade. Its room is used again.
  * Refuses by: REGISTER_NOT_A_TABLE, REGISTER_MARK_OUTSIDE, REGISTER_ABSENT; REGISTER_UNSOUND.
  * *live: the marks that are left. *rebuilt: as for register_insert. */
 uint32_t register_strike(uint32_t *table, size_t words, uint32_t x, uint32_t y, uint32_t tag,
                          uint32_t *live, uint32_t *rebuilt);
 
-/* Counts the marks that a box holds.
+/* Counts the marks that a box holds, and sums up their grades.
  * Refuses by: REGISTER_NOT_A_TABLE, REGISTER_BOX_CROSSED; REGISTER_UNSOUND.
- * *count: the marks. *visits: how many nodes of the trees the search came to. */
+ * *count: the marks. *visits: how many nodes of the trees the search came to. *sum: the sum of the
+ * marks' grades. *worst: the greatest of their grades. A box without marks has 0 for both. */
 uint32_t register_count(const uint32_t *table, size_t words, uint32_t x1, uint32_t x2, uint32_t y1,
-                        uint32_t y2, uint32_t *count, uint32_t *visits);
+                        uint32_t y2, uint32_t *count, uint32_t *visits, uint32_t *sum,
+                        uint32_t *worst);
 
-/* Lists the marks that a box holds, three words a mark, ascending by x, y, tag. They are sorted to
- * and fro between two lent lists, and *which says in which of them they stand at the end: 1 for
- * `first`, 2 for `second`; 1 where there was nothing to sort, as with one mark or none. The first
- * 3 * *count words of the other list may then be anything; words past 3 * *count are unchanged in
- * both.
+/* Lists the marks that a box holds, four words a mark (x, y, tag, grade), ascending by x, y, tag.
+ * They are sorted to and fro between two lent lists, and *which says in which of them they stand at
+ * the end: 1 for `first`, 2 for `second`; 1 where there was nothing to sort, as with one mark or
+ * none. The first 4 * *count words of the other list may then be anything; words past 4 * *count are
+ * unchanged in both.
  * Refuses by: REGISTER_NOT_A_TABLE, REGISTER_BOX_CROSSED, REGISTER_SHORT_LIST; REGISTER_UNSOUND.
  * *count: the marks; with REGISTER_SHORT_LIST too, so that the caller knows what to lend: each list
- * needs 3 * *count words. *visits: the nodes that the search and the walk through what it found came
+ * needs 4 * *count words. *visits: the nodes that the search and the walk through what it found came
  * to, at most 2 * *count more than a count's. *which: 0 in a refusal. */
 uint32_t register_list(const uint32_t *table, size_t words, uint32_t x1, uint32_t x2, uint32_t y1,
                        uint32_t y2, uint32_t *first, size_t first_words, uint32_t *second,
                        size_t second_words, uint32_t *count, uint32_t *visits, uint32_t *which);
 
-/* Tells whether a table is sound: its words hold the trees of its live marks, balanced and with
- * every stored figure right, and all other room in it is free. It goes through all of that, and so
- * takes longer than the other calls.
+/* Tells whether a table is sound: its words hold the trees of its live marks, each with a grade of 1
+ * to 100, balanced and with every stored figure right, and all other room in it is free. It goes
+ * through all of that, and so takes longer than the other calls.
  * Refuses, exactly where the table is not sound, by: REGISTER_NOT_A_TABLE, REGISTER_UNSOUND.
  * *live: the live marks. */
 uint32_t register_check(const uint32_t *table, size_t words, uint32_t *live);

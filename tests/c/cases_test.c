@@ -1,8 +1,9 @@
-/* Document 01's "Sheets to try", P3 to P12, and its sample, call by call, as a table. (P1 and P2 are in sizes_test.c.) */
+/* Document 01's "Sheets to try", P3 to P12, and its sample, as R-1 restates them, call by call, as a table; and what is refused for a grade. (P1 and P2 are in
+   sizes_test.c.) */
 #include "calls.h"
 #include "check.h"
 
-enum { WORDS = 15424, LISTED = 180 };    /* as `sheet` has them */
+enum { WORDS = 13184, LISTED = 160 };    /* as `sheet` has them */
 
 struct row {
     const char *name;
@@ -11,9 +12,9 @@ struct row {
     struct answer expected;
 };
 
-static struct call enter(uint32_t x, uint32_t y, uint32_t tag) { return inserting((struct mark){x, y, tag}); }
+static struct call enter(uint32_t x, uint32_t y, uint32_t tag, uint32_t grade) { return inserting((struct mark){x, y, tag, grade}); }
 
-static struct call wash(uint32_t x, uint32_t y, uint32_t tag) { return striking((struct mark){x, y, tag}); }
+static struct call wash(uint32_t x, uint32_t y, uint32_t tag) { return striking((struct mark){x, y, tag, 0}); }
 
 static struct call pane(uint32_t x1, uint32_t x2, uint32_t y1, uint32_t y2) { return counting((struct box){x1, x2, y1, y2}); }
 
@@ -27,72 +28,117 @@ static void try_row(const struct loan *l, const struct row *row) {
     CHECK(table_left_alone(row->call, r.number, l->table) && lists_left_alone(row->call, r, l) && all_guarded(l));
 }
 
-static void try_rows(const struct loan *l) {
-    const struct row rows[] = {
-        {"P3", 95, opening(1), {.number = 2}},
-        {"P3", 96, opening(1), {.live = 0}},
-        {"P4", 96, pane(0, UINT32_MAX, 0, UINT32_MAX), {.count = 0, .visits = 0}},
-        {"P5", 96, enter(7, 8, 9), {.live = 1}},
-        {"P5", 96, pane(7, 7, 8, 8), {.count = 1, .visits = 1}},
-        {"P10", 96, enter(7, 8, 10), {.number = 7}},
-        {"P10", 96, enter(7, 8, 9), {.number = 8}},
-        {"P11", 96, wash(7, 8, 9), {.live = 0}},
-        {"P11", 96, enter(1, 2, 3), {.live = 1}},
-        {"P12", WORDS, opening(2), {.live = 0}},
-        {"P12", WORDS, enter(3, 4, 5), {.live = 1}},
-        {"P12", WORDS, enter(3, 4, 6), {.live = 2}},
-        {"P12", WORDS, pane(3, 3, 4, 4), {.count = 2, .visits = 2}},
-        {"edge", WORDS, opening(60), {.live = 0}},
-        {"edge", WORDS, enter(999999, 999999, UINT32_MAX), {.live = 1}},
-        {"edge", WORDS, enter(1000000, 0, 0), {.number = 5}},
-        {"edge", WORDS, enter(0, 1000000, 0), {.number = 5}},
-        {"edge", WORDS, pane(999999, UINT32_MAX, 999999, UINT32_MAX), {.count = 1, .visits = 1}},
-        {"edge", WORDS, pane(1000000, UINT32_MAX, 0, UINT32_MAX), {.count = 0, .visits = 1}},
-        {"check", WORDS, examining(), {.live = 1}},
-        {"P8", WORDS, opening(60), {.live = 0}},
-        {"P8", WORDS, enter(1, 0, 0), {.live = 1, .rebuilt = 0}},
-        {"P8", WORDS, enter(2, 0, 0), {.live = 2, .rebuilt = 0}},
-        {"P8", WORDS, enter(3, 0, 0), {.live = 3, .rebuilt = 0}},
-        {"P8", WORDS, enter(4, 0, 0), {.live = 4, .rebuilt = 0}},
-        {"P9", WORDS, enter(5, 0, 0), {.live = 5, .rebuilt = 5}},
-    };
-    for (size_t i = 0; i < sizeof rows / sizeof *rows; i++) try_row(l, &rows[i]);
-    const uint32_t *t = l->table.word, *root = t + HEADER + 16 * (size_t)(t[3] / 2 % 60) + 3;    /* P9: the weights at the root, by docs/LAYOUT.md */
-    CHECK(root[1] == 2 && root[5] == 3);
+static void try_all(const struct loan *l, const struct row *rows, size_t n) {
+    for (size_t i = 0; i < n; i++) try_row(l, &rows[i]);
 }
 
-/* Where `sheet` prints R,11 no call is made. */
+#define TRY_ALL(loan, rows) try_all(loan, rows, sizeof(rows) / sizeof *(rows))
+
+static void try_rows(const struct loan *l) {
+    const struct row rows[] = {
+        {"P3", 103, opening(1), {.number = 2}},
+        {"P3", 104, opening(1), {.live = 0}},
+        {"P4", 104, pane(0, UINT32_MAX, 0, UINT32_MAX), {.count = 0, .visits = 0, .sum = 0, .worst = 0}},
+        {"P5", 104, enter(7, 8, 9, 3), {.live = 1}},
+        {"P5", 104, pane(7, 7, 8, 8), {.count = 1, .visits = 1, .sum = 3, .worst = 3}},
+        {"P10", 104, enter(7, 8, 10, 100), {.number = 7}},
+        {"P10", 104, enter(7, 8, 9, 3), {.number = 8}},
+        {"P10", 104, enter(7, 8, 9, 4), {.number = 8}},
+        {"P11", 104, wash(7, 8, 9), {.live = 0}},
+        {"P11", 104, enter(1, 2, 3, 100), {.live = 1}},
+        {"P12", WORDS, opening(2), {.live = 0}},
+        {"P12", WORDS, enter(3, 4, 5, 40), {.live = 1}},
+        {"P12", WORDS, enter(3, 4, 6, 30), {.live = 2}},
+        {"P12", WORDS, pane(3, 3, 4, 4), {.count = 2, .visits = 2, .sum = 70, .worst = 40}},
+        {"edge", WORDS, opening(40), {.live = 0}},
+        {"edge", WORDS, enter(999999, 999999, UINT32_MAX, 1), {.live = 1}},
+        {"edge", WORDS, enter(1000000, 0, 0, 1), {.number = 5}},
+        {"edge", WORDS, enter(0, 1000000, 0, 1), {.number = 5}},
+        {"edge", WORDS, pane(999999, UINT32_MAX, 999999, UINT32_MAX), {.count = 1, .visits = 1, .sum = 1, .worst = 1}},
+        {"edge", WORDS, pane(1000000, UINT32_MAX, 0, UINT32_MAX), {.count = 0, .visits = 1, .sum = 0, .worst = 0}},
+        {"check", WORDS, examining(), {.live = 1}},
+        {"P8", WORDS, opening(40), {.live = 0}},
+        {"P8", WORDS, enter(1, 0, 0, 1), {.live = 1, .rebuilt = 0}},
+        {"P8", WORDS, enter(2, 0, 0, 1), {.live = 2, .rebuilt = 0}},
+        {"P8", WORDS, enter(3, 0, 0, 1), {.live = 3, .rebuilt = 0}},
+        {"P8", WORDS, enter(4, 0, 0, 1), {.live = 4, .rebuilt = 0}},
+        {"P9", WORDS, enter(5, 0, 0, 1), {.live = 5, .rebuilt = 5}},
+    };
+    TRY_ALL(l, rows);
+    const uint32_t *t = l->table.word, *root = t + record_at(40, ALONG_X, 0, t[ROOT] / 2 % 40);    /* P9: the weights at the root */
+    CHECK(root[WEIGHT] == 2 && root[ARM + WEIGHT] == 3);
+}
+
+/* Number 12 comes after 3 and 5, before 8 and 7; and every call but open gives 3 for 103 words. */
+static void try_grades(const struct loan *l) {
+    static const uint32_t outside[] = {0, 101, 256, UINT32_MAX};
+    const struct row full[] = {
+        {"full", 104, opening(1), {.live = 0}},
+        {"full", 104, enter(1, 2, 3, 50), {.live = 1}},
+    };
+    const struct row after[] = {
+        {"another grade", 104, enter(1, 2, 3, 51), {.number = 8}},
+        {"another grade", 104, enter(1, 2, 3, 100), {.number = 8}},
+        {"kept", 104, pane(1, 1, 2, 2), {.count = 1, .visits = 1, .sum = 50, .worst = 50}},
+        {"off", 104, pane(1, 1, 3, 3), {.count = 0, .visits = 1, .sum = 0, .worst = 0}},
+        {"crossed", 104, pane(1, 0, 0, 0), {.number = 6}},
+        {"short", 103, pane(1, 1, 2, 2), {.number = 3}},
+        {"short", 103, enter(1, 2, 4, 1), {.number = 3}},
+        {"short", 103, wash(1, 2, 3), {.number = 3}},
+        {"short", 103, listing((struct box){1, 1, 2, 2}), {.number = 3}},
+        {"short", 103, examining(), {.number = 3}},
+        {"sound", 104, examining(), {.live = 1}},
+        {"any grade", 104, striking((struct mark){1, 2, 3, 77}), {.live = 0}},
+        {"greatest", 104, enter(1, 2, 3, 100), {.live = 1}},
+        {"greatest", 104, pane(1, 1, 2, 2), {.count = 1, .visits = 1, .sum = 100, .worst = 100}},
+    };
+    TRY_ALL(l, full);
+    for (size_t i = 0; i < sizeof outside / sizeof *outside; i++) {
+        const struct row refused[] = {
+            {"3 before 12", 103, enter(1, 2, 4, outside[i]), {.number = 3}},
+            {"5 before 12", 104, enter(1000000, 2, 4, outside[i]), {.number = 5}},
+            {"5 before 12", 104, enter(1, 1000000, 4, outside[i]), {.number = 5}},
+            {"12 before 8", 104, enter(1, 2, 3, outside[i]), {.number = 12}},
+            {"12 before 7", 104, enter(1, 2, 4, outside[i]), {.number = 12}},
+        };
+        TRY_ALL(l, refused);
+    }
+    TRY_ALL(l, after);
+}
+
+/* The sample as R-1 restates it. Where `sheet` prints R,11 no call is made. */
 static void try_sample(const struct loan *l) {
-    static const struct mark listed[] = {{10, 10, 1}, {20, 5, 2}};
+    static const struct mark listed[] = {{10, 10, 1, 5}, {20, 5, 2, 7}};
     const struct row before[] = {
-        {"sample", WORDS, opening(60), {.live = 0}},
-        {"sample", WORDS, enter(10, 10, 1), {.live = 1}},
-        {"sample", WORDS, enter(20, 5, 2), {.live = 2}},
-        {"sample", WORDS, enter(30, 20, 3), {.live = 3}},
-        {"P6", WORDS, pane(0, 20, 0, 10), {.count = 2, .visits = 5}},
-        {"P7", WORDS, pane(0, 30, 0, 10), {.count = 2, .visits = 6}},
+        {"sample", WORDS, opening(40), {.live = 0}},
+        {"sample", WORDS, enter(10, 10, 1, 5), {.live = 1}},
+        {"sample", WORDS, enter(20, 5, 2, 7), {.live = 2}},
+        {"sample", WORDS, enter(30, 20, 3, 100), {.live = 3}},
+        {"P6", WORDS, pane(0, 20, 0, 10), {.count = 2, .visits = 5, .sum = 12, .worst = 7}},
+        {"P7", WORDS, pane(0, 30, 0, 10), {.count = 2, .visits = 6, .sum = 12, .worst = 7}},
         {"sample", WORDS, listing((struct box){0, 30, 0, 10}), {.count = 2, .visits = 6, .which = 2}},
     };
     const struct row after[] = {
         {"sample", WORDS, wash(10, 10, 1), {.live = 2}},
-        {"sample", WORDS, pane(0, 30, 0, 30), {.count = 2, .visits = 2}},
+        {"sample", WORDS, pane(0, 30, 0, 30), {.count = 2, .visits = 2, .sum = 107, .worst = 100}},
         {"sample", WORDS, wash(10, 10, 1), {.number = 9}},
-        {"sample", WORDS, enter(1000000, 0, 1), {.number = 5}},
+        {"sample", WORDS, enter(1000000, 0, 1, 101), {.number = 5}},
+        {"sample", WORDS, enter(40, 0, 1, 101), {.number = 12}},
         {"sample", WORDS, pane(20, 10, 0, 0), {.number = 6}},
         {"check", WORDS, examining(), {.live = 2}},
     };
-    for (size_t i = 0; i < sizeof before / sizeof *before; i++) try_row(l, &before[i]);
+    TRY_ALL(l, before);
     CHECK(memcmp(l->lists[1].word, listed, sizeof listed) == 0);
-    for (size_t i = 0; i < sizeof after / sizeof *after; i++) try_row(l, &after[i]);
+    TRY_ALL(l, after);
 }
 
-/* Lists of 3k words and of 3k - 1; and a crossed box before lists that are too short. */
+/* Lists of 4k words and of 4k - 1; and a crossed box before lists that are too short. */
 static void try_lists(struct loan *l) {
     const struct box all = {0, 30, 0, 30}, crossed = {1, 0, 0, 0};
-    static const size_t lengths[][2] = {{6, 6}, {5, 6}, {6, 5}, {0, 180}, {180, 0}, {0, 0}};
+    static const size_t lengths[][2] = {{8, 8}, {7, 8}, {8, 7}, {6, 6}, {0, LISTED}, {LISTED, 0}, {0, 0}};
     for (size_t i = 0; i < sizeof lengths / sizeof *lengths; i++) {
         memcpy(l->lent, lengths[i], sizeof l->lent);
-        int suffice = lengths[i][0] >= 6 && lengths[i][1] >= 6;
+        int suffice = lengths[i][0] >= 8 && lengths[i][1] >= 8;
         struct answer listed = {.count = 2, .visits = 4, .which = 2}, refused = {.number = 10, .count = 2};
         try_row(l, &(struct row){"lists", WORDS, listing(all), suffice ? listed : refused});
         try_row(l, &(struct row){"crossed", WORDS, listing(crossed), {.number = 6}});
@@ -103,6 +149,7 @@ static void try_lists(struct loan *l) {
 int main(void) {
     struct loan l = borrow(WORDS, LISTED);
     try_rows(&l);
+    try_grades(&l);
     try_sample(&l);
     try_lists(&l);
     pay_back(l);

@@ -1,4 +1,4 @@
-/* Runs of words lent between guard words, with a copy of what stood there; random numbers; and W(C). */
+/* Runs of words lent between guard words, with a copy of what stood there; and random numbers. */
 #ifndef LENT_H
 #define LENT_H
 
@@ -11,7 +11,6 @@
 #define GUARD 64    /* words on either side of a run. With 0 valgrind sees each access past a run */
 #endif
 
-enum { HEADER = 64, PER_MARK = 32, PER_LEVEL = 16, LARGEST = 65536 };
 static const uint32_t GUARD_WORD = 0xA5A55A5A;
 
 static uint64_t state = 88172645463325252u;
@@ -25,23 +24,6 @@ static inline uint32_t draw(uint32_t n) {
 }
 
 static inline int one_in(uint32_t n) { return draw(n) == 0; }
-
-__extension__ typedef unsigned __int128 wide;    /* wide enough for 4^39 */
-
-/* D(C), the largest D with 4^D <= 3^D C, by raising D from 0. */
-static inline uint32_t levels_for(uint32_t capacity) {
-    wide four = 1, three = 1;
-    uint32_t d = 0;
-    while (four * 4 <= three * 3 * capacity) {
-        four *= 4;
-        three *= 3;
-        d++;
-    }
-    return d;
-}
-
-/* W(C) = 64 + C (32 + 16 D). */
-static inline size_t words_for(uint32_t capacity) { return HEADER + capacity * (PER_MARK + PER_LEVEL * (size_t)levels_for(capacity)); }
 
 struct lent {
     uint32_t *all, *word, *kept;

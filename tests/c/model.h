@@ -10,12 +10,14 @@
 struct node {
     enum axis axis;
     uint32_t weight;
+    struct grades grades;
     struct mark least, greatest;              /* of the marks beneath; a leaf's own mark */
     struct node *left, *right, *auxiliary;    /* of an inner node; the auxiliary of one along x */
 };
 
 struct found {
     uint32_t count, visits;
+    struct grades grades;
 };
 
 /* The places on the way of an update, from the root down. A balanced tree of 65,536 marks is 38 deep. */
@@ -37,7 +39,7 @@ static void forget(struct node *t) {
 static struct node *make_leaf(enum axis axis, struct mark m) {
     struct node *t = malloc(sizeof *t);
     if (t == NULL) abort();
-    *t = (struct node){axis, 1, m, m, NULL, NULL, NULL};
+    *t = (struct node){axis, 1, grades_of(m), m, m, NULL, NULL, NULL};
     return t;
 }
 
@@ -45,6 +47,7 @@ static struct node *make_leaf(enum axis axis, struct mark m) {
 static void sum_up(struct node *t) {
     if (is_leaf(t)) return;
     t->weight = t->left->weight + t->right->weight;
+    t->grades = joined(t->left->grades, t->right->grades);
     t->least = t->left->least;
     t->greatest = t->right->greatest;
 }
@@ -131,26 +134,26 @@ static uint32_t strike(struct node **at, struct mark m) {
     return mend(&w);
 }
 
+static struct found both(struct found a, struct found b) { return (struct found){a.count + b.count, a.visits + b.visits, joined(a.grades, b.grades)}; }
+
 /* Counts, or where `walks` lists: in an auxiliary a cell inside the side is then walked, one visit a node. */
 static struct found search(const struct node *t, struct box b, int walks) {
-    if (t == NULL) return (struct found){0, 0};
-    if (is_leaf(t)) return (struct found){(uint32_t)holds_mark(b, t->least), 1};
+    static const struct found visit = {.visits = 1};
+    if (t == NULL) return (struct found){0};
+    if (is_leaf(t)) return holds_mark(b, t->least) ? (struct found){1, 1, t->grades} : visit;
     int x = t->axis == ALONG_X;
     uint32_t low = x ? t->least.x : t->least.y, high = x ? t->greatest.x : t->greatest.y, from = x ? b.x1 : b.y1, to = x ? b.x2 : b.y2;
-    if (from <= low && high <= to) {
-        if (!x) return (struct found){t->weight, walks ? 2 * t->weight - 1 : 1};
-        struct found f = search(t->auxiliary, b, walks);
-        return (struct found){f.count, f.visits + 1};
-    }
-    if (high < from || to < low) return (struct found){0, 1};
-    struct found l = search(t->left, b, walks), r = search(t->right, b, walks);
-    return (struct found){l.count + r.count, l.visits + r.visits + 1};
+    if (from <= low && high <= to)
+        return x ? both(visit, search(t->auxiliary, b, walks)) : (struct found){t->weight, walks ? 2 * t->weight - 1 : 1, t->grades};
+    if (high < from || to < low) return visit;
+    return both(visit, both(search(t->left, b, walks), search(t->right, b, walks)));
 }
 
-/* Every node of the tree and of its auxiliary trees is balanced, and an auxiliary has its node's weight. */
+/* Every node of the tree and of its auxiliary trees is balanced, and an auxiliary has its node's weight and grades. */
 static int stands(const struct node *t) {
     if (t == NULL || is_leaf(t)) return 1;
-    if (t->axis == ALONG_X && (t->auxiliary->weight != t->weight || !stands(t->auxiliary))) return 0;
+    const struct node *a = t->auxiliary;
+    if (t->axis == ALONG_X && (a->weight != t->weight || !same_grades(a->grades, t->grades) || !stands(a))) return 0;
     return is_balanced(t) && t->weight == t->left->weight + t->right->weight && stands(t->left) && stands(t->right);
 }
 

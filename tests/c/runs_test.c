@@ -24,7 +24,8 @@ struct run {
     int grows, in_step;               /* whether the table's copy is what stands in it before a call */
 };
 
-static unsigned long numbers[KINDS][REGISTER_SHORT_LIST + 1], rebuilds;
+static unsigned long numbers[KINDS][LARGEST_NUMBER + 1], rebuilds;
+static unsigned long fallen;    /* how often the worst grade of a box fell with a strike */
 
 /* Where a mark stands in the plain list, or would. */
 static uint32_t place_of(const struct run *r, struct mark m) {
@@ -51,6 +52,7 @@ static struct answer open_step(struct run *r, uint32_t capacity) {
 static struct answer insert_step(struct run *r, struct mark m) {
     uint32_t i = place_of(r, m);
     if (is_outside(m)) return (struct answer){.number = REGISTER_MARK_OUTSIDE};
+    if (is_grade_outside(m)) return (struct answer){.number = REGISTER_GRADE_OUTSIDE};
     if (i < r->live && same_mark(r->plain[i], m)) return (struct answer){.number = REGISTER_PRESENT};
     if (r->live == r->capacity) return (struct answer){.number = REGISTER_FULL};
     memmove(r->plain + i + 1, r->plain + i, (r->live++ - i) * sizeof m);
@@ -69,10 +71,11 @@ static struct answer strike_step(struct run *r, struct mark m) {
 static struct answer search_step(struct run *r, struct box b, int lists) {
     if (is_crossed(b)) return (struct answer){.number = REGISTER_BOX_CROSSED};
     uint32_t k = scan(r->plain, r->live, b, r->held);
+    struct grades g = all_grades(r->held, k);
     struct found f = search(r->tree, b, lists);
-    COMPARE(f.count == k);
-    if (!lists) return (struct answer){.count = k, .visits = f.visits};
-    if (r->loan.lent[0] < 3 * (size_t)k || r->loan.lent[1] < 3 * (size_t)k) return (struct answer){.number = REGISTER_SHORT_LIST, .count = k};
+    COMPARE(f.count == k && same_grades(f.grades, g));
+    if (!lists) return (struct answer){.count = k, .visits = f.visits, .sum = g.sum, .worst = g.worst};
+    if (r->loan.lent[0] < list_words(k) || r->loan.lent[1] < list_words(k)) return (struct answer){.number = REGISTER_SHORT_LIST, .count = k};
     return (struct answer){.count = k, .visits = f.visits, .which = which_list(k)};
 }
 
@@ -116,10 +119,11 @@ static void make_call(struct run *r, struct call c) {
     rebuilds += a.rebuilt != 0;
 }
 
-/* A mark of the run's span, or one that is live, or at the edge of the sheet, or beyond it. */
+/* A mark of the run's span, or one that is live, or at the edge of the sheet, or beyond it; with any grade. */
 static struct mark any_mark(const struct run *r, uint32_t live_ones) {
-    struct mark m = {draw(r->span), draw(r->span), draw(r->tags)};
+    struct mark m = {draw(r->span), draw(r->span), draw(r->tags), 0};
     if (r->live > 0 && draw(10) < live_ones) m = r->plain[draw(r->live)];
+    m.grade = any_grade();
     if (!one_in(12)) return m;
     switch (draw(8)) {
     case 0: m.x = LARGEST_COORDINATE; break;
@@ -141,7 +145,7 @@ static void order(uint32_t *low, uint32_t *high) {
 
 static struct box any_box(const struct run *r) {
     struct box b = {draw(r->span + 1), draw(r->span + 1), draw(r->span + 1), draw(r->span + 1)};
-    struct mark m = r->live > 0 ? r->plain[draw(r->live)] : (struct mark){0, 0, 0};
+    struct mark m = r->live > 0 ? r->plain[draw(r->live)] : (struct mark){0};
     if (one_in(6)) b.x1 = 0, b.x2 = UINT32_MAX;
     if (one_in(6)) b.y1 = 0, b.y2 = UINT32_MAX;
     if (one_in(12)) b.x1 = b.x2 = m.x;
@@ -155,7 +159,7 @@ static struct box any_box(const struct run *r) {
 
 /* Lends lists for the marks of a box: just as long as they must be, a word shorter, of no words, or longer. */
 static void lend_lists(struct run *r, struct box b) {
-    size_t needed = 3 * (size_t)scan(r->plain, r->live, b, r->held);
+    size_t needed = list_words(scan(r->plain, r->live, b, r->held));
     for (int i = 0; i < 2; i++) {
         r->loan.lent[i] = needed;
         switch (draw(8)) {
@@ -190,6 +194,20 @@ static void list_some(struct run *r) {
     make_call(r, listing(b));
 }
 
+/* The worst mark of a box is struck, and the box counted before and after. */
+static void strike_worst(struct run *r) {
+    struct box b = any_box(r);
+    make_call(r, counting(b));
+    uint32_t k = scan(r->plain, r->live, b, r->held);
+    if (k == 0) return;
+    struct mark worst = r->held[0];
+    for (uint32_t i = 1; i < k; i++)
+        if (r->held[i].grade > worst.grade) worst = r->held[i];
+    make_call(r, striking(worst));
+    make_call(r, counting(b));
+    fallen += all_grades(r->held, k - 1).worst < worst.grade;
+}
+
 static void random_call(struct run *r) {
     uint32_t n = draw(100);
     if (n < r->searches) {
@@ -198,6 +216,8 @@ static void random_call(struct run *r) {
         make_call(r, one_in(4) ? opening(any_capacity(r)) : examining());
     } else if ((draw(5) < 4) == grows_now(r)) {
         make_call(r, inserting(any_mark(r, 2)));
+    } else if (one_in(5)) {
+        strike_worst(r);
     } else {
         make_call(r, striking(any_mark(r, 8)));
     }
@@ -205,7 +225,7 @@ static void random_call(struct run *r) {
 
 static struct run begin(uint32_t capacity, uint32_t span, uint32_t tags) {
     struct run r = {.capacity = capacity, .span = span, .tags = tags, .searches = 40, .rest = 5, .every = 1, .grows = 1};
-    r.loan = borrow(words_for(capacity) + draw(50), 3 * (size_t)capacity + draw(5));
+    r.loan = borrow(words_for(capacity) + draw(50), list_words(capacity) + draw(5));
     r.plain = allocate((capacity + 1) * sizeof *r.plain);
     r.held = allocate((capacity + 1) * sizeof *r.held);
     make_call(&r, opening(0));
@@ -252,16 +272,16 @@ static void largest_run(uint32_t capacity) {
     uint32_t rows = 64, each = capacity / rows;
     r.every = 64;
     for (uint32_t i = 0; i < capacity; i++) {
-        make_call(&r, inserting((struct mark){i / each * 15, draw(1000), i}));
+        make_call(&r, inserting((struct mark){i / each * 15, draw(1000), i, right_grade()}));
         look(&r, i);
     }
-    make_call(&r, inserting((struct mark){0, 0, UINT32_MAX}));    /* full */
-    make_call(&r, inserting(r.plain[draw(capacity)]));            /* full, and present */
+    make_call(&r, inserting((struct mark){0, 0, UINT32_MAX, 1}));    /* full */
+    make_call(&r, inserting(r.plain[draw(capacity)]));               /* full, and present */
     while (r.live > capacity * 3 / 4) make_call(&r, striking(r.plain[0]));
     for (; r.live > capacity / 2; look(&r, r.live)) make_call(&r, striking(any_mark(&r, 9)));
     for (; r.live < capacity; look(&r, r.live)) make_call(&r, inserting(any_mark(&r, 0)));
-    make_call(&r, inserting((struct mark){0, 0, UINT32_MAX}));
-    for (int i = 0; i < 2; i++) r.loan.lent[i] = 3 * (size_t)capacity;
+    make_call(&r, inserting((struct mark){0, 0, UINT32_MAX, 1}));
+    for (int i = 0; i < 2; i++) r.loan.lent[i] = list_words(capacity);
     make_call(&r, listing((struct box){0, UINT32_MAX, 0, UINT32_MAX}));
     end(&r);
 }
@@ -269,11 +289,11 @@ static void largest_run(uint32_t capacity) {
 /* Every number of each call came up, and often, but 3 and 4: no call of a run gives them. */
 static void check_numbers(void) {
     for (int kind = 0; kind < KINDS; kind++)
-        for (unsigned n = 0; n <= REGISTER_SHORT_LIST; n++) {
+        for (unsigned n = 0; n <= LARGEST_NUMBER; n++) {
             int comes = has_number(kind, n) && n != REGISTER_NOT_A_TABLE && n != REGISTER_UNSOUND;
             CHECK(comes ? numbers[kind][n] > 100 : numbers[kind][n] == 0);
         }
-    CHECK(rebuilds > 1000);
+    CHECK(rebuilds > 1000 && fallen > 1000);
 }
 
 int main(void) {

@@ -1,6 +1,6 @@
-/* The sizes of every capacity beside an independent computation (lent.h). */
+/* The sizes of every capacity beside an independent computation (layout.h). */
 #include "check.h"
-#include "lent.h"
+#include "layout.h"
 #include "markregister.h"
 
 /* D(C), read off the words that the library asks for. */
@@ -10,10 +10,10 @@ int main(void) {
     for (uint32_t capacity = 1; capacity <= LARGEST; capacity++)
         COMPARE(levels_asked(capacity) == levels_for(capacity) && register_words(capacity) == words_for(capacity));
 
-    /* document 01, P1 and P2 */
+    /* document 01, P1 and P2, restated by R-1 */
     CHECK(levels_asked(1) == 0 && levels_asked(2) == 2 && levels_asked(3) == 3);
     CHECK(levels_asked(4) == 4 && levels_asked(5) == 5 && levels_asked(8) == 7);
-    CHECK(register_words(1) == 96 && register_words(60) == 15424);
+    CHECK(register_words(1) == 104 && register_words(40) == 13184);
 
     /* out of range */
     CHECK(register_words(0) == 0);

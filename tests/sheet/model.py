@@ -1,13 +1,14 @@
 """What `sheet` must print, coded apart from it: its lines, and a two-fold tree by document 01's rules. Slow, and meant to be read beside document 01."""
 import re
 
-CAPACITY = 60
+CAPACITY = 40
 LARGEST_COORDINATE = 999999
+LARGEST_GRADE = 100
 LARGEST_WORD = 4294967295
-X, Y = 0, 1  # the axes; a mark is x, y, tag
+X, Y = 0, 1  # the axes; a mark is x, y, tag, and its grade is kept beside it
 
 NUMBER = rb'(0|[1-9][0-9]{0,9})'
-LINE = re.compile(rb'([ID]),N,N,N|([CL]),N,N,N,N'.replace(b'N', NUMBER), re.DOTALL)
+LINE = re.compile(rb'([ICL]),N,N,N,N|(D),N,N,N'.replace(b'N', NUMBER), re.DOTALL)
 
 
 def key(axis, mark):
@@ -110,31 +111,36 @@ def visits(axis, tree, box, lists):
 
 class Sheet:
     def __init__(self):
-        self.marks, self.tree = set(), None
+        self.grades, self.tree = {}, None
 
-    def update(self, letter, mark):
+    def update(self, letter, mark, grade=None):
         if max(mark[:2]) > LARGEST_COORDINATE:
             return [b'R,5']
         if letter == b'I':
-            if mark in self.marks:
+            if not 1 <= grade <= LARGEST_GRADE:
+                return [b'R,12']
+            if mark in self.grades:
                 return [b'R,8']
-            if len(self.marks) == CAPACITY:
+            if len(self.grades) == CAPACITY:
                 return [b'R,7']
-            self.marks.add(mark)
+            self.grades[mark] = grade
             self.tree, rebuilt = inserted(X, self.tree, mark)
         else:
-            if mark not in self.marks:
+            if mark not in self.grades:
                 return [b'R,9']
-            self.marks.remove(mark)
+            del self.grades[mark]
             self.tree, rebuilt = struck(X, self.tree, mark)
-        return [b'%s,%d,%d' % (letter, len(self.marks), rebuilt)]
+        return [b'%s,%d,%d' % (letter, len(self.grades), rebuilt)]
 
     def search(self, letter, box):
         if box[0] > box[1] or box[2] > box[3]:
             return [b'R,6']
-        found = sorted(m for m in self.marks if held(box, m))
+        found = sorted((*m, g) for m, g in self.grades.items() if held(box, m))
         came = visits(X, self.tree, box, letter == b'L') if self.tree else 0
-        return [b'%s,%d,%d' % (letter, len(found), came)] + [b'%d,%d,%d' % m for m in found if letter == b'L']
+        if letter == b'L':
+            return [b'L,%d,%d' % (len(found), came)] + [b'%d,%d,%d,%d' % m for m in found]
+        grades = [m[3] for m in found]
+        return [b'C,%d,%d,%d,%d' % (len(found), came, sum(grades), max(grades, default=0))]
 
     def line(self, line):
         match = LINE.fullmatch(line) if len(line) <= 48 else None
@@ -142,7 +148,7 @@ class Sheet:
         numbers = tuple(int(f) for f in fields[1:])
         if not match or max(numbers) > LARGEST_WORD:
             return [b'R,11']
-        return (self.update if len(numbers) == 3 else self.search)(fields[0], numbers)
+        return self.update(fields[0], numbers[:3], *numbers[3:]) if fields[0] in b'ID' else self.search(fields[0], numbers)
 
 
 def printed(data):

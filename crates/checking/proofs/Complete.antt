@@ -11,7 +11,7 @@ use borrow.Author.Tests.{eq-eqb, ne-eqb, ltb-true, le-ltb}
 use Rattle.model.specs.Lists.{if_then_else_}
 use Rattle.model.specs.Sizes.{D, W}
 use Rattle.model.specs.Tree.{Tree, leaf, node, weight, depth, marks, marksOf, least, greatest, Balanced}
-use Rattle.model.specs.Sheet.{Mark, Main, markOutside, alongX, alongY, sheet}
+use Rattle.model.specs.Sheet.{Mark, Main, markOutside, gradeOutside, alongX, alongY, sheet}
 use Rattle.model.specs.Slots.{slotAxis, slotSpace}
 use Rattle.model.specs.Laws.{SameBag, All, Sorted}
 use Rattle.model.proofs.Logic.{by-cases, both-pass}
@@ -63,6 +63,10 @@ module _ (xs : List ℕ) where
   abbrev Live : List ℕ → Type 0
   Live l = All (λ s. liveSlot♯ C n xs s ≡ true) l
 
+  -- the marks of all these slots are on the sheet and graded
+  abbrev Entered : List ℕ → Type 0
+  Entered l = All (λ s. (markOutside (f s) ≡ false) × (gradeOutside (f s) ≡ false)) l
+
   -- a live slot is one of the table, whatever else is asked of it
   live-below : (s : ℕ) (rest : Bool) → (if liveSlot♯ C n xs s then rest else false) ≡ true → s < C
   live-below s rest e = live-slot C xs n s (both-pass (liveSlot♯ C n xs s) rest e .0) .0
@@ -88,7 +92,8 @@ module _ (xs : List ℕ) where
         (record { sorted = sorted; balanced = balanced; slots = slots; records = held .records; tested = any-tested (levelPlace C d) u }))
 
     -- an inner main node's auxiliary tree
-    auxiliary-stands : (d : ℕ) → d < D C → (i : SlotAuxiliary) (l r : SlotMain) → Sorted (slotAxis f alongX) (marks l ++ marks r) → Live (marks l ++ marks r)
+    auxiliary-stands : (d : ℕ) → d < D C → (i : SlotAuxiliary) (l r : SlotMain) → Sorted (slotAxis f alongX) (marks l ++ marks r)
+        → Live (marks l ++ marks r)
         → HoldsAuxiliary f C d (least r) xs i → AuxiliaryOf f (marks l ++ marks r) i
         → auxiliaryStands♯ C n xs (levelPlace C d) (least r) (weight l + weight r) (least l) (greatest r) ≡ true
     unfolding auxiliaryStands♯
@@ -116,10 +121,10 @@ module _ (xs : List ℕ) where
         )
 
     -- the walk through the main tree
-    main-walk : (t : SlotMain) → Live (marks t) → All (λ s. markOutside (f s) ≡ false) (marks t) → TwoFold f C 0 xs t → ByRules f t
+    main-walk : (t : SlotMain) → Live (marks t) → Entered (marks t) → TwoFold f C 0 xs t → ByRules f t
         → mainSpan♯ deepest (topLevel C) C n (armOf alongX f t) xs .sound ≡ true
     unfolding mainSpan♯ mainSlot♯
-    main-walk t live inside h k =
+    main-walk t live entered h k =
         let shallow : depth t ≤ 38 = held-shallow (h .main) (k .balanced) small in
         rw (top-level C small)
         (ap (λ s. s .sound)
@@ -128,7 +133,7 @@ module _ (xs : List ℕ) where
         (record {
           sorted = k .sorted;
           balanced = k .balanced;
-          slots = all-map (λ s e. rw (e .0, e .1)) (all-both live inside);
+          slots = all-map (λ s e. rw (e .0, e .1 .0, e .1 .1)) (all-both live entered);
           records = h .main .records;
           tested = main-tested 0 t (omega (arith, held-depth (h .main) (k .balanced))) live h k;
         })))
@@ -143,21 +148,22 @@ module _ (xs : List ℕ) where
       (λ u. absurd (let w = (rw u at (e .live s (within s k))) in omega arith))))
 
   -- the root, with or without a tree
-  root-stands : C ≤ 65536 → length xs ≡ W C → (o : Option SlotMain) → HoldsTree xs o → TreeByRules xs o → All (λ s. markOutside (f s) ≡ false) (marksOf o)
+  root-stands : C ≤ 65536 → length xs ≡ W C → (o : Option SlotMain) → HoldsTree xs o → TreeByRules xs o → Entered (marksOf o)
       → n ≡ length (marksOf o) → EachOnce xs o → rootStands C n (armAt xs rootPlace) xs ≡ true
   unfolding rootStands
-  root-stands small long none h k inside many free = rw (h, many)
-  root-stands small long (some t) h k inside many free =
+  root-stands small long none h k entered many free = rw (h, many)
+  root-stands small long (some t) h k entered many free =
       let w : weight t ≡ n = weight-marks t ∙ sym many in
       rw (h .0, eq-eqb (weight t) n w, ne-eqb n 0 (omega (arith, weight-pos t)))
-      (main-walk small long t (tree-live t (h .1 .main .within) free) inside (h .1) k)
+      (main-walk small long t (tree-live t (h .1 .main .within) free) entered (h .1) k)
 
 -- a sound table passes
 pub holding-tree : (xs : List ℕ) (T : Main) → Holding xs T → soundTree♯ (capacityOf xs) (liveOf xs) xs ≡ true
 unfolding soundTree♯
 holding-tree xs T h =
-    let inside : All (λ s. markOutside (slotMark xs s) ≡ false) (marksOf (h .slots)) =
+    let entered =
     all-unmapped (slotMark xs) (marksOf (h .slots))
-    (subst (All (λ m. markOutside m ≡ false)) (ap (λ T. marksOf T) (sym (h .stands)) ∙ stands-marks (slotMark xs) (h .slots)) (h .coordinates)) in
+    (subst (All (λ m. (markOutside m ≡ false) × (gradeOutside m ≡ false)))
+    (ap (λ T. marksOf T) (sym (h .stands)) ∙ stands-marks (slotMark xs) (h .slots)) (all-both (h .coordinates) (h .grades))) in
     rw (inverse-complete (capacityOf xs) xs (h .free .used))
-    (root-stands xs (capacity-small (capacityOf xs) (h .capacity)) (h .long) (h .slots) (h .holds) (h .rules) inside (live-slots h) (h .free))
+    (root-stands xs (capacity-small (capacityOf xs) (h .capacity)) (h .long) (h .slots) (h .holds) (h .rules) entered (live-slots h) (h .free))

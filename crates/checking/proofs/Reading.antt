@@ -17,12 +17,15 @@ use Rattle.model.proofs.Lists.{all-append, all-left, all-right}
 use Rattle.model.proofs.Sorted.{sorted-left, sorted-right, sorted-across}
 use Rattle.model.proofs.Tree.{all-least, all-greatest, sorted-over}
 use Rattle.model.proofs.Orders.{sheet-sameness}
+use Rattle.model.proofs.Totals.{join-zero}
 use Rattle.model.proofs.Slots.{slotSpace-sameness, slotAxis-laws}
 use Rattle.table.specs.Marks.{slotMark}
-use Rattle.nodes.specs.Weights.{sum}
-use Rattle.nodes.specs.Arms.{Arm, arm, arms, leafNumber, innerNumber, leafArm, overArm, Record, recordAt}
-use Rattle.nodes.specs.Holds.{armOf}
-use Rattle.checking.specs.Span.{Span, span, noSpan, sameArm, fits♯, joins♯, NodeTest, spanLeaf, spanOver, spanNode, spanStep, treeSpan}
+use Rattle.table.specs.Grades.{grading, word, joinedWord}
+use Rattle.table.proofs.Packing.{grading-laws}
+use Rattle.nodes.specs.Arms.{Arm, arms, leafArm, overArm, Record, recordAt}
+use Rattle.nodes.specs.Holds.{gradesOf, armOf}
+use Rattle.nodes.proofs.Held.{leafArm-of, overArm-of, gradesOf-over}
+use Rattle.checking.specs.Span.{Span, span, noSpan, sameArm, fits♯, joins♯, NodeTest, slotArm, spanLeaf, spanOver, spanNode, spanStep, treeSpan}
 use Rattle.checking.proofs.Walked.{Carried, Walked, readTree}
 use Rattle.checking.proofs.Comparing.{all-pass, same-arm, arm-same, Fits, fits-sound, fits-complete}
 
@@ -35,18 +38,18 @@ all-span true true false d x e = clash e refl
 all-span true false c d x e = clash e refl
 all-span false b c d x e = clash e refl
 
-module _ (A : Axis Mark Box) (O : AxisLaws sheet A) (C : ℕ) (place : ℕ → ℕ) (slot : ℕ → Bool) (next : ℕ → ℕ) (test : ℕ → ℕ → ℕ → NodeTest) (xs : List ℕ) where
+module _ (A : Axis Mark Box) (O : AxisLaws sheet A) (C : ℕ) (place : ℕ → ℕ) (slot : ℕ → Bool) (next : ℕ → ℕ)
+    (test : ℕ → ℕ → ℕ → NodeTest) (xs : List ℕ) where
   -- a step of the walk at a leaf
-  leaf-sound : (s : ℕ) (a : Arm) → spanLeaf A slot s a xs .sound ≡ true → (slot s ≡ true) × (a ≡ leafArm s (A .at (slotMark xs s)))
+  leaf-sound : (s : ℕ) (a : Arm) → spanLeaf A slot s a xs .sound ≡ true → (slot s ≡ true) × (a ≡ slotArm A s xs)
   unfolding spanLeaf
   leaf-sound s a e =
-      let q : Arm = leafArm s (A .at (slotMark xs s)) in
-      let p = all-span true true (slot s) (sameArm a q) (span s s) e in
-      (p .2, same-arm a q (p .3))
+      let p = all-span true true (slot s) (sameArm a (slotArm A s xs)) (span s s) e in
+      (p .2, same-arm a (slotArm A s xs) (p .3))
 
-  leaf-complete : (s : ℕ) (a : Arm) → slot s ≡ true → a ≡ leafArm s (A .at (slotMark xs s)) → spanLeaf A slot s a xs ≡ span s s
+  leaf-complete : (s : ℕ) (a : Arm) → slot s ≡ true → a ≡ slotArm A s xs → spanLeaf A slot s a xs ≡ span s s
   unfolding spanLeaf
-  leaf-complete s a t e = rw (t, arm-same a (leafArm s (A .at (slotMark xs s))) e)
+  leaf-complete s a t e = rw (t, arm-same a (slotArm A s xs) e)
 
   -- and at an inner node, given what the walks through its children came to
   record Passes (base name : ℕ) (a : Arm) (p : Record) (x y : Span) : Type 0 where
@@ -66,12 +69,12 @@ module _ (A : Axis Mark Box) (O : AxisLaws sheet A) (C : ℕ) (place : ℕ → �
         let y : Span = rec (next base) (p .right) in
         let h = all-span (fits♯ name a (p .left) (p .right)) (joins♯ name x y) (A .below (slotMark xs (x .last)) (slotMark xs name))
         (test base name (a .weight) (x .first) (y .last)) (span (x .first) (y .last)) e in
-        let j = all-pass true (x .sound) (y .sound) (eqb (y .first) name) (h .1) in
+        let j = all-pass true true (x .sound) (y .sound) (eqb (y .first) name) (h .1) in
         record {
           fits = fits-sound name a (p .left) (p .right) (h .0);
-          left = j .1;
-          right = j .2;
-          named = eqb-true (y .first) name (j .3);
+          left = j .2;
+          right = j .3;
+          named = eqb-true (y .first) name (j .4);
           follows = h .2;
           tested = h .3;
         }
@@ -93,16 +96,19 @@ module _ (A : Axis Mark Box) (O : AxisLaws sheet A) (C : ℕ) (place : ℕ → �
 
   -- reading a leaf, and an inner node whose children were read
   read-leaf : {I : Type 0} (carry : ℕ → ℕ → Tree ℕ I → Tree ℕ I → I) (n base : ℕ) (a : Arm) → leb C (a .node / 2) ≡ false
-      → eqb (a .node % 2) 0 ≡ true → treeSpan A C place slot next test (suc n) xs base a .sound ≡ true → Reads carry (suc n) base a (leaf (a .node / 2))
+      → eqb (a .node % 2) 0 ≡ true → treeSpan A C place slot next test (suc n) xs base a .sound ≡ true
+      → Reads carry (suc n) base a (leaf (a .node / 2))
   unfolding treeSpan spanStep leafArm
-  read-leaf carry n base a inside even e =
+  read-leaf {I = I} carry n base a inside even e =
       let s : ℕ = a .node / 2 in
       let h = leaf-sound s a (rw (inside, even) at e) in
       let number : a .node ≡ 2 * s = omega (arith, eqb-true (a .node % 2) 0 even) in
+      let grades : a .grades ≡ word (gradesOf {I = I} (slotMark xs) (leaf s)) =
+      rw (join-zero grading grading-laws (grading .of (slotMark xs s))) (ap (λ q. q .grades) (h .1)) in
       let ends : treeSpan A C place slot next test (suc n) xs base a ≡ span s s = rw (inside, even) (leaf-complete s a (h .0) (h .1)) in
       record {
         walked = record { sorted = sorted∷ nil sorted[]; balanced = tt; slots = cons (h .0) nil; records = tt; tested = tt };
-        arm = λ i. record { node = number i; weight = h .1 i .weight; least = h .1 i .least; greatest = h .1 i .greatest };
+        arm = λ i. record { node = number i; weight = h .1 i .weight; least = h .1 i .least; greatest = h .1 i .greatest; grades = grades i };
         first = ap (λ z. z .first) ends;
         last = ap (λ z. z .last) ends;
         carried = tt;
@@ -131,6 +137,9 @@ module _ (A : Axis Mark Box) (O : AxisLaws sheet A) (C : ℕ) (place : ℕ → �
         let lo : a .least ≡ A .at (f (least l)) = ap (λ q. q .least) (h .fits .over) ∙ ap (λ q. q .least) (hl .arm) in
         let hi : a .greatest ≡ A .at (f (greatest r)) = ap (λ q. q .greatest) (h .fits .over) ∙ ap (λ q. q .greatest) (hr .arm) in
         let kept : own ≡ arms (armOf A f l) (armOf A f r) = λ i. record { left = hl .arm i; right = hr .arm i } in
+        let grades : a .grades ≡ word (gradesOf f (node (carry base name l r) l r)) =
+        ap (λ q. q .grades) (h .fits .over) ∙ ap (λ q. joinedWord (q .left .grades) (q .right .grades)) kept
+        ∙ gradesOf-over f (carry base name l r) l r in
         let ends : treeSpan A C place slot next test (suc n) xs base a ≡ span (child (own .left) .first) (child (own .right) .last) =
         rw (inside, odd) (node-complete (treeSpan A C place slot next test n xs) base name a own h) in
         record {
@@ -144,7 +153,7 @@ module _ (A : Axis Mark Box) (O : AxisLaws sheet A) (C : ℕ) (place : ℕ → �
             records = (ap (λ s. recordAt xs (place s)) (sym is) ∙ kept, hl .walked .records, hr .walked .records);
             tested = ((rw (hl .first, hr .last, is, w) at (h .tested)), hl .walked .tested, hr .walked .tested);
           };
-          arm = λ i. record { node = number i; weight = w i; least = lo i; greatest = hi i };
+          arm = λ i. record { node = number i; weight = w i; least = lo i; greatest = hi i; grades = grades i };
           first = ap (λ z. z .first) ends ∙ hl .first;
           last = ap (λ z. z .last) ends ∙ hr .last;
           carried = (rw is, hl .carried, hr .carried);
@@ -189,22 +198,21 @@ module _ (A : Axis Mark Box) (O : AxisLaws sheet A) (C : ℕ) (place : ℕ → �
     }
 
   -- passing a leaf, and an inner node whose children were passed: the arms are right where no slot's number and no weight goes round
-  pass-leaf : (n base s : ℕ) → C ≤ 65536 → s < C → slot s ≡ true
-      → treeSpan A C place slot next test (suc n) xs base (arm (2 * s) 1 (A .at (slotMark xs s)) (A .at (slotMark xs s))) ≡ span s s
-  unfolding treeSpan spanStep leafArm leafNumber
-  pass-leaf n base s small inside live =
-      let a : Arm = arm (2 * s) 1 (A .at (slotMark xs s)) (A .at (slotMark xs s)) in
+  pass-leaf : (I : Type 0) (n base s : ℕ) → C ≤ 65536 → s < C → slot s ≡ true
+      → treeSpan A C place slot next test (suc n) xs base (armOf {I = I} A (slotMark xs) (leaf s)) ≡ span s s
+  unfolding treeSpan spanStep
+  pass-leaf I n base s small inside live =
+      let f : ℕ → Mark = slotMark xs in
       let even : eqb ((2 * s) % 2) 0 ≡ true = eq-eqb ((2 * s) % 2) 0 (omega arith) in
       let half : (2 * s) / 2 ≡ s = omega arith in
-      let kept : s % 2147483648 ≡ s = omega arith in
-      rw (half, lt-leb C s inside, even) (leaf-complete s a live (rw kept))
+      rw (half, lt-leb C s inside, even) (leaf-complete s (armOf {I = I} A f (leaf s)) live (sym (leafArm-of f s (A .at (f s)) (omega arith))))
 
   module _ {I : Type 0} (small : C ≤ 65536) (below : (s : ℕ) → slot s ≡ true → s < C) where
-    pass-over : (n base : ℕ) (i : I) (l r : Tree ℕ I) → weight l + weight r < 4294967296 → Walked A place slot next test xs base (node i l r)
+    pass-over : (n base : ℕ) (i : I) (l r : Tree ℕ I) → weight l + weight r ≤ 65536 → Walked A place slot next test xs base (node i l r)
         → treeSpan A C place slot next test n xs (next base) (armOf A (slotMark xs) l) ≡ span (least l) (greatest l)
         → treeSpan A C place slot next test n xs (next base) (armOf A (slotMark xs) r) ≡ span (least r) (greatest r)
         → treeSpan A C place slot next test (suc n) xs base (armOf A (slotMark xs) (node i l r)) ≡ span (least l) (greatest r)
-    unfolding treeSpan spanStep overArm innerNumber sum
+    unfolding treeSpan spanStep
     pass-over n base i l r light w left right =
         let f : ℕ → Mark = slotMark xs in
         let name : ℕ = least r in
@@ -214,10 +222,13 @@ module _ (A : Axis Mark Box) (O : AxisLaws sheet A) (C : ℕ) (place : ℕ → �
         let odd : eqb ((2 * name + 1) % 2) 0 ≡ false = ne-eqb ((2 * name + 1) % 2) 0 (omega arith) in
         let half : (2 * name + 1) / 2 ≡ name = omega arith in
         let inside : name < C = below name (all-least r (all-right (marks l) (marks r) (w .slots))) in
-        let kept : name % 2147483648 ≡ name = omega arith in
-        let added : (weight l + weight r) % 4294967296 ≡ weight l + weight r = omega arith in
         let h : Passes base name a p (rec (next base) (p .left)) (rec (next base) (p .right)) = record {
-          fits = record { weights = refl; evenLeft = w .balanced .0; evenRight = w .balanced .1; over = rw (kept, added) };
+          fits = record {
+            weights = refl;
+            evenLeft = w .balanced .0;
+            evenRight = w .balanced .1;
+            over = sym (overArm-of A f i l r (omega arith) light);
+          };
           left = ap (λ z. z .sound) left;
           right = ap (λ z. z .sound) right;
           named = ap (λ z. z .first) right;
@@ -226,12 +237,12 @@ module _ (A : Axis Mark Box) (O : AxisLaws sheet A) (C : ℕ) (place : ℕ → �
         } in
         rw (half, lt-leb C name inside, odd, w .records .0, node-complete rec base name a p h, left, right)
 
-    pub walk-passes : (n base : ℕ) (t : Tree ℕ I) → depth t < n → weight t < 4294967296 → Walked A place slot next test xs base t
+    pub walk-passes : (n base : ℕ) (t : Tree ℕ I) → depth t < n → weight t ≤ 65536 → Walked A place slot next test xs base t
         → treeSpan A C place slot next test n xs base (armOf A (slotMark xs) t) ≡ span (least t) (greatest t)
     walk-passes zero base t deep light w = absurd (omega arith)
     walk-passes (suc n) base (leaf s) deep light w =
         let live : slot s ≡ true = all-least {I = I} (leaf s) (w .slots) in
-        pass-leaf n base s small (below s live) live
+        pass-leaf I n base s small (below s live) live
     walk-passes (suc n) base (node i l r) deep light w =
         pass-over n base i l r light w
         (walk-passes n (next base) l (omega arith) (omega arith) (walked-left w))

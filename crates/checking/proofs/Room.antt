@@ -15,24 +15,26 @@ use Rattle.table.specs.Layout.{mainPlace, recordPlace, slotsEnd}
 use Rattle.table.specs.Header.{capacityOf, ownWords}
 use Rattle.table.specs.Marks.{slotMark}
 use Rattle.table.proofs.Own.{own-table}
-use Rattle.nodes.specs.Arms.{Arm, leafArm, Record, recordAt}
+use Rattle.nodes.specs.Arms.{Arm, Record, recordAt}
 use Rattle.nodes.proofs.Levels.{W-words}
 use Rattle.twofold_layout.specs.Levels.{deeper}
-use Rattle.checking.specs.Span.{Span, span, noSpan, Within, sameArm, fits♯, joins♯, NodeTest, anyNode, spanLeaf, spanOver, spanNode, spanStep, treeSpan}
+use Rattle.checking.specs.Span.{Span, span, noSpan, Within, sameArm, fits♯, joins♯, NodeTest, anyNode, slotArm, spanLeaf, spanOver, spanNode}
+use Rattle.checking.specs.Span.{spanStep, treeSpan}
 use Rattle.checking.specs.Trees.{auxiliarySlot♯, auxiliarySpan♯, auxiliaryStands♯, mainSlot♯, mainSpan♯}
 
 pub slots-there : (xs : List ℕ) → (ownWords xs ≡ 0 → ⊥) → slotsEnd (capacityOf xs) ≤ length xs
 slots-there xs own = omega (arith, own-table xs own .4, W-words (capacityOf xs))
 
 -- where there is a slot at all: the span of no tree is at slot 0
-module _ (A : Axis Mark Box) (C : ℕ) (some : 0 < C) (place : ℕ → ℕ) (slot : ℕ → Bool) (next : ℕ → ℕ) (test : ℕ → ℕ → ℕ → NodeTest) (xs : List ℕ) where
+module _ (A : Axis Mark Box) (C : ℕ) (some : 0 < C) (place : ℕ → ℕ) (slot : ℕ → Bool) (next : ℕ → ℕ)
+    (test : ℕ → ℕ → ℕ → NodeTest) (xs : List ℕ) where
   passed : (c : Bool) (x : Span) → Within C x → Within C (if c then x else noSpan)
   passed true x h = h
   passed false x h = (some, some)
 
   leaf-within : (s : ℕ) (a : Arm) → s < C → Within C (spanLeaf A slot s a xs)
   unfolding spanLeaf
-  leaf-within s a h = passed (slot s) _ (passed (sameArm a (leafArm s (A .at (slotMark xs s)))) (span s s) (h, h))
+  leaf-within s a h = passed (slot s) _ (passed (sameArm a (slotArm A s xs)) (span s s) (h, h))
 
   over-within : (asked : NodeTest) (name : ℕ) (x y : Span) → Within C x → Within C y → Within C (spanOver A asked name x y xs)
   unfolding spanOver

@@ -2,7 +2,7 @@
 use Prim.Native.Nat.{ℕ, _≤_, _<_}
 use mathlib.Core.Path.{_≡_, refl, sym, ap, subst, _∙_}
 use mathlib.Core.Bool.{true, false}
-use mathlib.Core.List.{List}
+use mathlib.Core.List.{List, map}
 use mathlib.Core.Option.{Option, none, some}
 use native.Mathlib.Omega.{arith}
 use lib.Dec.{eqb}
@@ -11,7 +11,7 @@ use borrow.Author.Tests.{lt-ltb, eqb-true}
 use Rattle.model.specs.Lists.{if_then_else_, indicator}
 use Rattle.model.specs.Tree.{marks, marksOf, least, greatest}
 use Rattle.model.specs.Sizes.{W, capacityOutside}
-use Rattle.model.specs.Sheet.{Main, markOutside, alongX}
+use Rattle.model.specs.Sheet.{Mark, Main, markOutside, gradeOutside, alongX}
 use Rattle.model.specs.Laws.{All, nil}
 use Rattle.model.proofs.Logic.{by-cases, both-pass, fails-passes}
 use Rattle.model.proofs.Lists.{all-map, all-mapped}
@@ -54,17 +54,21 @@ module _ (xs : List ℕ) where
   abbrev n : ℕ
   n = liveOf xs
 
-  main-slot : (s : ℕ) → mainSlot♯ C n xs s ≡ true → (liveSlot♯ C n xs s ≡ true) × (markOutside (slotMark xs s) ≡ false)
+  main-slot : (s : ℕ) → mainSlot♯ C n xs s ≡ true
+      → (liveSlot♯ C n xs s ≡ true) × (markOutside (slotMark xs s) ≡ false) × (gradeOutside (slotMark xs s) ≡ false)
   unfolding mainSlot♯
   main-slot s e =
       let outside = markOutside (slotMark xs s) in
-      let a = both-pass (liveSlot♯ C n xs s) (if outside then false else true) e in
-      (a .0, fails-passes outside true (a .1) .0)
+      let ungraded = gradeOutside (slotMark xs s) in
+      let a = both-pass (liveSlot♯ C n xs s) (if outside then false else (if ungraded then false else true)) e in
+      let b = fails-passes outside (if ungraded then false else true) (a .1) in
+      (a .0, b .0, fails-passes ungraded true (b .1) .0)
 
   module _ (isOpen : getD xs openPlace 0 ≡ 1) (capacity : capacityOutside C ≡ false) (long : length xs ≡ W C) (within : n ≤ C) (v : Inverse C xs)
       (heavy : armAt xs rootPlace .weight ≡ n) where
     -- as many live slots as there are, each once, are all of them
-    each-once : (o : Option SlotMain) → ((s : ℕ) → timesIn s (marksOf o) ≤ 1) → ((s : ℕ) → 0 < timesIn s (marksOf o) → liveSlot♯ C n xs s ≡ true)
+    each-once : (o : Option SlotMain) → ((s : ℕ) → timesIn s (marksOf o) ≤ 1)
+        → ((s : ℕ) → 0 < timesIn s (marksOf o) → liveSlot♯ C n xs s ≡ true)
         → length (marksOf o) ≡ n → EachOnce xs o
     each-once o once live many = record {
       used = v .used;
@@ -82,6 +86,7 @@ module _ (xs : List ℕ) where
       holds = heavy ∙ z;
       rules = tt;
       coordinates = nil;
+      grades = nil;
       live = z;
       free = each-once none (λ s. omega arith) (λ s h. absurd (omega arith)) (sym z);
     }
@@ -117,10 +122,17 @@ module _ (xs : List ℕ) where
           auxiliaries-stand C n xs (topLevel C) 0 (mainTree xs) small (top-level C small) (omega (arith, held-shallow main-held (w .balanced) small))
           (w .sorted) main-covers (w .tested) (main-reads .carried)
 
+      main-marked : marksOf (marksMain (slotMark xs) (some (mainTree xs))) ≡ map (slotMark xs) (marks (mainTree xs))
+      main-marked = stands-marks (slotMark xs) (some (mainTree xs))
+
+      -- what the test of a slot says of its mark is so of all marks of the tree
+      main-marks : (P : Mark → Type 0) → ((s : ℕ) → mainSlot♯ C n xs s ≡ true → P (slotMark xs s))
+          → All P (marksOf (marksMain (slotMark xs) (some (mainTree xs))))
+      main-marks P h = subst (All P) (sym main-marked) (all-mapped (slotMark xs) (all-map h (main-reads .walked .slots)))
+
       some-holding : Holding xs (marksMain (slotMark xs) (some (mainTree xs)))
       some-holding =
           let w = main-reads .walked in
-          let marked = stands-marks (slotMark xs) (some (mainTree xs)) in
           record {
             isOpen = isOpen;
             capacity = capacity;
@@ -129,9 +141,9 @@ module _ (xs : List ℕ) where
             stands = refl;
             holds = (main-reads .arm, record { main = main-held; auxiliaries = main-auxiliaries .1 });
             rules = record { sorted = w .sorted; balanced = w .balanced; auxiliaries = main-auxiliaries .0 };
-            coordinates =
-                subst (All (λ m. markOutside m ≡ false)) (sym marked) (all-mapped (slotMark xs) (all-map (λ s h. main-slot s h .1) (w .slots)));
-            live = sym (ap length marked ∙ length-map (marks (mainTree xs)) (slotMark xs) ∙ main-many);
+            coordinates = main-marks (λ m. markOutside m ≡ false) (λ s h. main-slot s h .1);
+            grades = main-marks (λ m. gradeOutside m ≡ false) (λ s h. main-slot s h .2);
+            live = sym (ap length main-marked ∙ length-map (marks (mainTree xs)) (slotMark xs) ∙ main-many);
             free = main-once;
           }
 

@@ -28,7 +28,8 @@ Within capacity s = (s .first < capacity) × (s .last < capacity)
 unfoldable pub sameArm : Arm → Arm → Bool
 sameArm a b =
     if eqb (a .node) (b .node)
-    then (if eqb (a .weight) (b .weight) then (if eqb (a .least) (b .least) then eqb (a .greatest) (b .greatest) else false) else false)
+    then (if eqb (a .weight) (b .weight)
+    then (if eqb (a .least) (b .least) then (if eqb (a .greatest) (b .greatest) then eqb (a .grades) (b .grades) else false) else false) else false)
     else false
 
 -- the arm of an inner node is that over its children's arms, and it is balanced
@@ -49,10 +50,14 @@ abbrev pub anyNode : NodeTest
 anyNode first last = true
 
 module _ (A : Axis Mark Box) where
-  -- the leaf of slot s, where the slot passes a test
+  -- the arm of the leaf of slot s
+  abbrev pub slotArm : ℕ → List ℕ → Arm
+  slotArm s xs = leafArm s (A .at (slotMark xs s)) (slotMark xs s .grade)
+
+  -- that leaf, where the slot passes a test
   unfoldable pub spanLeaf : (ℕ → Bool) → ℕ → Arm → List ℕ → Span
   spanLeaf slot s a xs =
-      if slot s then (if sameArm a (leafArm s (A .at (slotMark xs s))) then span s s else noSpan) else noSpan
+      if slot s then (if sameArm a (slotArm s xs) then span s s else noSpan) else noSpan
 
   -- a node of that name over two trees
   unfoldable pub spanOver : NodeTest → ℕ → Span → Span → List ℕ → Span

@@ -7,7 +7,7 @@ use native.Mathlib.Omega.{arith}
 use lib.Dec.{ltb, eqb}
 use lib.ListN.{length}
 use Rattle.model.specs.Lists.{if_then_else_}
-use Rattle.model.specs.Sheet.{belowX, markOutside, alongX, alongY}
+use Rattle.model.specs.Sheet.{belowX, markOutside, gradeOutside, alongX, alongY}
 use Rattle.table.specs.Layout.{mainPlace, auxiliaryPlace, recordPlace, levelEnd}
 use Rattle.table.specs.Limits.{deepest}
 use Rattle.table.specs.Marks.{slotMark}
@@ -48,9 +48,12 @@ auxiliaryStands♯ capacity live xs base name w first last =
     if ltb (length xs) (levelEnd base capacity) then false
     else (if eqb (a .weight) w then auxiliarySpan♯ deepest base capacity live first last a xs .sound else false)
 
--- the main tree's slots: live, their marks on the sheet
+-- the main tree's slots: live, their marks on the sheet and graded
 unfoldable pub mainSlot♯ : ℕ → ℕ → List ℕ → ℕ → Bool
-mainSlot♯ capacity live xs s = if liveSlot♯ capacity live xs s then (if markOutside (slotMark xs s) then false else true) else false
+mainSlot♯ capacity live xs s =
+    if liveSlot♯ capacity live xs s
+    then (if markOutside (slotMark xs s) then false else (if gradeOutside (slotMark xs s) then false else true))
+    else false
 
 -- an inner main node over two trees
 abbrev pub mainOver : ℕ → ℕ → ℕ → ℕ → ℕ → Span → Span → List ℕ → Span

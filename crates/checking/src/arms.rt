@@ -11,7 +11,9 @@ pub fn same(a: Arm, b: Arm) -> bool
     if a.node == b.node {
         if a.weight == b.weight {
             if a.least == b.least {
-                return a.greatest == b.greatest;
+                if a.greatest == b.greatest {
+                    return a.grades == b.grades;
+                }
             }
         }
     }

@@ -44,7 +44,7 @@ fn leaf(t: &[u32], capacity: u32, live: u32, first: u32, last: u32, s: u32, a: S
 {
     if may_stand(t, capacity, live, first, last, s) {
         let m = table::slots::load(t, s);
-        if arms::same(a.bare(), Arm::leaf(s, m.y)) {
+        if arms::same(a.bare(), Arm::leaf(s, m.y, m.grade)) {
             return ends::between(s, s);
         }
     }

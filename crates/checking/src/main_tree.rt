@@ -20,7 +20,7 @@ use nodes::secondary::SecondaryRecord;
 use table::limits;
 use twofold_layout::levels;
 
-// Whether a slot may stand in the main tree: it holds a mark, with coordinates of the sheet.
+// Whether a slot may stand in the main tree: it holds a mark, with coordinates of the sheet and a grade.
 fn may_stand(t: &[u32], capacity: u32, live: u32, s: u32) -> bool
     requires { ⌜ (s < capacity) × (slotsEnd capacity ≤ length (now t)) ⌝ }
     ensures { λ r. ⌜ r ≡ mainSlot♯ capacity live (now (t .entry)) s ⌝ }
@@ -28,6 +28,9 @@ fn may_stand(t: &[u32], capacity: u32, live: u32, s: u32) -> bool
     if slots::is_live(t, capacity, live, s) {
         let m = table::slots::load(t, s);
         if m.is_outside() {
+            return false;
+        }
+        if m.is_ungraded() {
             return false;
         }
         return true;
@@ -42,7 +45,7 @@ fn leaf(t: &[u32], capacity: u32, live: u32, s: u32, a: PrimaryArm) -> Ends
 {
     if may_stand(t, capacity, live, s) {
         let m = table::slots::load(t, s);
-        if arms::same(a.bare(), Arm::leaf(s, m.x)) {
+        if arms::same(a.bare(), Arm::leaf(s, m.x, m.grade)) {
             return ends::between(s, s);
         }
     }

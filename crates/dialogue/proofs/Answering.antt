@@ -12,6 +12,7 @@ use Rattle.model.specs.Sheet.{Box}
 use Rattle.model.specs.History as history
 use Rattle.model.specs.History.{Call, Answer}
 use Rattle.model.proofs.Logic.{by-cases}
+use Rattle.table.specs.Layout.{listPlace}
 use Rattle.table.specs.Marks.{listMarks}
 use Rattle.sorting.proofs.Words.{listMarks-length}
 use Rattle.register.specs.Answers.{ListFigures, inList, listGiven}
@@ -26,13 +27,13 @@ use Rattle.dialogue.specs.Responding.{callOf, lentTo, longestResponse, A
 -- a response of one line
 module _ (c : Command) (call : Call) (before after : Lent) (a : Answer) (p : Performs call before after a) where
   pub answered-first : {out out′ : List ℕ} {place : ℕ} → marksAfter c a ≡ []
-      → (place ≤ 24) × Wrote out 0 (firstLine (letter c) (a .number) (figures c a)) place out′ → Answered c call before after out place out′
+      → (place ≤ 46) × Wrote out 0 (firstLine (letter c) (a .number) (figures c a)) place out′ → Answered c call before after out place out′
   answered-first alone w =
       record { answer = a; performs = p; wrote = rw (printed-first c a alone) (w .1); room = omega (arith, w .0) }
 
 -- `which` tells an accepted list from a refusal
 later-accepted : {xs : List ℕ} {b : Box} {m n : ℕ} {a : Answer} → Later xs (history.list b m n) a → a .which ≢ 0
-    → (a .number ≡ 0) × (3 * length (a .listed) ≤ m)
+    → (a .number ≡ 0) × (listPlace (length (a .listed)) ≤ m)
 later-accepted (short t h) k = absurd (k refl)
 later-accepted (lists t h i) k = (refl, h)
 later-accepted (unsound o h) k = absurd (k refl)
@@ -45,7 +46,7 @@ module _ (b : Box) (before after : Lent) (f : ListFigures) where
   answer = listGiven f (after .first) (after .second)
 
   module _ (p : Performs call before after answer) (h : f .which ≢ 0) where
-    accepted : (f .number ≡ 0) × (3 * length (answer .listed) ≤ length (before .first))
+    accepted : (f .number ≡ 0) × (listPlace (length (answer .listed)) ≤ length (before .first))
     accepted =
         by-cases (eqb (early call (before .table)) 0)
         (λ t. later-accepted (p .later (eqb-true (early call (before .table)) 0 t)) h)
@@ -54,11 +55,12 @@ module _ (b : Box) (before after : Lent) (f : ListFigures) where
     listed : answer .listed ≡ listMarks (inList (f .which) (after .first) (after .second)) 0 (f .k)
     listed = rw (ne-eqb (f .which) 0 h)
 
-    pub list-room : 3 * f .k ≤ length (before .first)
+    pub list-room : listPlace (f .k) ≤ length (before .first)
     list-room = omega (arith, accepted .1, ap length listed, listMarks-length (inList (f .which) (after .first) (after .second)) 0 (f .k))
 
-    pub answered-list : {out mid out′ : List ℕ} {at place : ℕ} → (at ≤ 24) × Wrote out 0 (firstLine 76 (f .number) (f .k ∷ f .visits ∷ [])) at mid
-        → (place ≤ at + 33 * f .k) × Wrote mid at (markLines (listMarks (inList (f .which) (after .first) (after .second)) 0 (f .k))) place out′
+    pub answered-list : {out mid out′ : List ℕ} {at place : ℕ}
+        → (at ≤ 46) × Wrote out 0 (firstLine 76 (f .number) (f .k ∷ f .visits ∷ [])) at mid
+        → (place ≤ at + 44 * f .k) × Wrote mid at (markLines (listMarks (inList (f .which) (after .first) (after .second)) 0 (f .k))) place out′
         → Answered (list b) call before after out place out′
     unfolding firstLine
     answered-list w v =
@@ -74,7 +76,7 @@ module _ (b : Box) (before after : Lent) (f : ListFigures) where
 
 lent-fewer : (c : Command) (w : Lent) → length (lentTo c w .first) ≤ length (w .first)
 lent-fewer (insert m) w = omega arith
-lent-fewer (strike m) w = omega arith
+lent-fewer (strike x y tag) w = omega arith
 lent-fewer (count b) w = omega arith
 lent-fewer (list b) w = omega arith
 
@@ -91,6 +93,6 @@ module _ (c : Command) (before after : Lent) {out out′ : List ℕ} {place : �
 
 -- and for none
 module _ (w : Lent) {out out′ : List ℕ} {place : ℕ} where
-  pub does-none : (place ≤ 24) × Wrote out 0 notALine place out′ → 24 ≤ length out → length out′ ≡ length out
+  pub does-none : (place ≤ 46) × Wrote out 0 notALine place out′ → 46 ≤ length out → length out′ ≡ length out
       → (place ≤ length out′) × Does w w (take place out′) none
   does-none a room same = (omega (arith, a .0), turnedAway refl (wrote-front (a .1) (omega (arith, a .0))))

@@ -19,7 +19,8 @@ fed-next : {s t u : Dialogue} {text more : List ℕ} (chunk : List ℕ) (i : ℕ
 fed-next {more = more} chunk i h g f = rw (add-one i, take-suc chunk i 0 h) (rw (append-nil more) at (fed-both g (then f none)))
 
 -- a response written behind others, of which there are `at` bytes
-text-next : (front part rest : List ℕ) (at n : ℕ) → length front ≡ at → n ≤ length part → take (at + n) (front ++ (part ++ rest)) ≡ front ++ take n part
+text-next : (front part rest : List ℕ) (at n : ℕ) → length front ≡ at → n ≤ length part
+    → take (at + n) (front ++ (part ++ rest)) ≡ front ++ take n part
 text-next front part rest at n e h = rw (← e, take-append-add front (part ++ rest) n, take-append-le n part rest h)
 
 -- both: its response in the part of `out` behind those of the bytes before it

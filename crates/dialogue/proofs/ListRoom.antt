@@ -10,8 +10,8 @@ use lib.ListN.{length, getD, drop}
 use borrow.Author.Tests.{le-ltb, eqb-false}
 use Rattle.model.specs.Lists.{filterBy}
 use Rattle.model.specs.Laws.{All, nil, cons}
-use Rattle.model.specs.Sheet.{markOutside, boxCrossed, holds}
-use Rattle.model.specs.Refusals.{enterMark, enterBox}
+use Rattle.model.specs.Sheet.{mark, markOutside, gradeOutside, boxCrossed, holds}
+use Rattle.model.specs.Refusals.{enterMark, nameMark, enterBox}
 use Rattle.model.specs.History.{State, Answer, has, answer, next}
 use Rattle.model.proofs.Logic.{by-cases}
 use Rattle.model.proofs.Lists.{filterBy-length, countIf-length}
@@ -32,7 +32,7 @@ record Small (s : State) : Type 0 where
 
 kept : (c : Command) (n : ℕ) (s : State) → next (callOf c n n) s .capacity ≡ s .capacity
 kept (insert m) n s = by-cases (eqb (answer (callOf (insert m) n n) s .number) 0) (λ t. rw t) (λ f. rw f)
-kept (strike m) n s = by-cases (eqb (answer (callOf (strike m) n n) s .number) 0) (λ t. rw t) (λ f. rw f)
+kept (strike x y tag) n s = by-cases (eqb (answer (callOf (strike x y tag) n n) s .number) 0) (λ t. rw t) (λ f. rw f)
 kept (count b) n s = by-cases (eqb (answer (callOf (count b) n n) s .number) 0) (λ t. rw t) (λ f. rw f)
 kept (list b) n s = by-cases (eqb (answer (callOf (list b) n n) s .number) 0) (λ t. rw t) (λ f. rw f)
 
@@ -43,23 +43,25 @@ stays c s h = record {
 }
 
 never-short : (c : Command) (s : State) → Small s → answer (callOf c listWords listWords) s .number ≢ 10
-unfolding enterMark enterBox
+unfolding enterMark nameMark enterBox
 never-short (insert m) s h =
     by-cases (markOutside m)
     (λ t. rw t (omega arith))
-    (λ t. by-cases (has m (s .plain))
+    (λ t. by-cases (gradeOutside m)
     (λ u. rw (t, u) (omega arith))
-    (λ u. by-cases (eqb (length (s .plain)) (s .capacity)) (λ v. rw (t, u, v) (omega arith)) (λ v. rw (t, u, v) (omega arith))))
-never-short (strike m) s h =
-    by-cases (markOutside m)
+    (λ u. by-cases (has m (s .plain))
+    (λ v. rw (t, u, v) (omega arith))
+    (λ v. by-cases (eqb (length (s .plain)) (s .capacity)) (λ w. rw (t, u, v, w) (omega arith)) (λ w. rw (t, u, v, w) (omega arith)))))
+never-short (strike x y tag) s h =
+    by-cases (markOutside (mark x y tag 0))
     (λ t. rw t (omega arith))
-    (λ t. by-cases (has m (s .plain)) (λ u. rw (t, u) (omega arith)) (λ u. rw (t, u) (omega arith)))
+    (λ t. by-cases (has (mark x y tag 0) (s .plain)) (λ u. rw (t, u) (omega arith)) (λ u. rw (t, u) (omega arith)))
 never-short (count b) s h = by-cases (boxCrossed b) (λ t. rw t (omega arith)) (λ t. rw t (omega arith))
 never-short (list b) s h =
     let k = length (filterBy (holds b) (s .plain)) in
-    let room : 3 * k ≤ listWords =
+    let room : 4 * k ≤ listWords =
     omega (arith, filterBy-length (holds b) (s .plain), countIf-length (holds b) (s .plain), h .right .fits, h .capacity) in
-    by-cases (boxCrossed b) (λ t. rw t (omega arith)) (λ t. rw (t, le-ltb listWords (3 * k) room) (omega arith))
+    by-cases (boxCrossed b) (λ t. rw t (omega arith)) (λ t. rw (t, le-ltb listWords (4 * k) room) (omega arith))
 
 -- the text of a refusal says its number, and no other response begins with its letter
 refusal-value : (n : ℕ) → valueOn 0 (drop 2 (refusalLine n)) ≡ 10 * n + (10 - 48)
@@ -71,7 +73,7 @@ refusal-once m n e = omega (arith, refusal-value m, refusal-value n, ap (λ l. v
 
 letter-other : (c : Command) → letter c ≢ 82
 letter-other (insert m) e = absurd (omega arith)
-letter-other (strike m) e = absurd (omega arith)
+letter-other (strike x y tag) e = absurd (omega arith)
 letter-other (count b) e = absurd (omega arith)
 letter-other (list b) e = absurd (omega arith)
 

@@ -29,15 +29,15 @@ responses nothing = []
 responses {n} (command {s = s} {c = c} taken p) = printed c (answer (callOf c n n) s) ∷ responses p
 responses (other taken p) = notALine ∷ responses p
 
--- "opens it for 60 marks" in "an array of 15,424 words"; "Its lists hold 180 words each."
+-- "`sheet` opens 40 marks in 13,184 words with lists of 160 words" (R-1)
 abbrev pub marks : ℕ
-marks = 60
+marks = 40
 
 abbrev pub tableWords : ℕ
-tableWords = 15424
+tableWords = 13184
 
 abbrev pub listWords : ℕ
-listWords = 180
+listWords = 160
 
 -- the register when it has been opened
 abbrev pub opened : State

@@ -5,6 +5,7 @@ use mathlib.Core.Path.{_≡_}
 use mathlib.Core.List.{List}
 use mathlib.Core.Option.{Option, none, some}
 use lib.ListN.{length}
+use Rattle.model.specs.Sheet.{mark}
 use Rattle.model.specs.History as history
 use Rattle.model.specs.History.{Call, Answer}
 use Rattle.register.specs.Performs.{Lent, alone, Performs}
@@ -13,17 +14,17 @@ use Rattle.lines.specs.Input.{TakenAs}
 use Rattle.lines.specs.Responses.{printed, notALine}
 use Rattle.lines.specs.Writing.{Wrote}
 
--- the call of a command; a list is lent two lists, of these lengths
+-- the call of a command; a list is lent two lists, of these lengths. A strike does not look at a grade: 0 stands in its place.
 abbrev pub callOf : Command → (first second : ℕ) → Call
 callOf (insert m) f s = history.insert m
-callOf (strike m) f s = history.strike m
+callOf (strike x y tag) f s = history.strike (mark x y tag 0)
 callOf (count b) f s = history.count b
 callOf (list b) f s = history.list b f s
 
 -- what it is lent of the words held
 abbrev pub lentTo : Command → Lent → Lent
 lentTo (insert m) w = alone (w .table)
-lentTo (strike m) w = alone (w .table)
+lentTo (strike x y tag) w = alone (w .table)
 lentTo (count b) w = alone (w .table)
 lentTo (list b) w = w
 
@@ -44,9 +45,9 @@ pub record Responds (line : List ℕ) (before after : Lent) (text : List ℕ) : 
   pub taken : TakenAs line command
   pub does : Does before after text command
 
--- the most bytes that a response has: 24, and 33 for each mark that a first list of so many words has room for
+-- a response has no more bytes than 46, and 44 for each mark that a first list of so many words has room for
 abbrev pub longestResponse : ℕ → ℕ
-longestResponse words = 24 + 11 * words
+longestResponse words = 46 + 11 * words
 
 -- the bytes `out` have room for a response, and numbers of 32 bits count them
 abbrev pub Room : (first out : List ℕ) → Type 0

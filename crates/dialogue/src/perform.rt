@@ -1,6 +1,7 @@
 // Commands performed on the register; each function gives how many bytes of its response it has written into `out`.
 ghost use Prim.Native.Nat.{_≤_, _<_};
 ghost use lib.ListN.{length, take};
+ghost use Rattle.model.specs.Sheet.{mark};
 ghost use Rattle.model.specs.History as history;
 ghost use Rattle.geometry.specs.Values.{markValue, boxValue};
 ghost use Rattle.register.specs.Performs.{alone, lends};
@@ -16,16 +17,16 @@ fn insert(table: &mut [u32], m: Mark, out: &mut [u8]) -> u32
     ensures { λ r. ⌜ Answered (insertCommand (markValue m)) (history.insert (markValue m)) (alone (now (table .entry))) (alone (now (table .exit)))
         (now (out .entry)) r (now (out .exit)) ⌝ }
 {
-    let f = register::insert::insert(table, m.x, m.y, m.tag).figures();
-    response::put_first(out, b'I', f.number, f.live, f.rebuilt)
+    let f = register::insert::insert(table, m.x, m.y, m.tag, m.grade).figures();
+    response::put_first(out, b'I', f.number, &[f.live, f.rebuilt])
 }
 
-fn strike(table: &mut [u32], m: Mark, out: &mut [u8]) -> u32
-    ensures { λ r. ⌜ Answered (strikeCommand (markValue m)) (history.strike (markValue m)) (alone (now (table .entry))) (alone (now (table .exit)))
+fn strike(table: &mut [u32], x: u32, y: u32, tag: u32, out: &mut [u8]) -> u32
+    ensures { λ r. ⌜ Answered (strikeCommand x y tag) (history.strike (mark x y tag 0)) (alone (now (table .entry))) (alone (now (table .exit)))
         (now (out .entry)) r (now (out .exit)) ⌝ }
 {
-    let f = register::strike::strike(table, m.x, m.y, m.tag).figures();
-    response::put_first(out, b'D', f.number, f.live, f.rebuilt)
+    let f = register::strike::strike(table, x, y, tag).figures();
+    response::put_first(out, b'D', f.number, &[f.live, f.rebuilt])
 }
 
 fn count(table: &[u32], b: Box, out: &mut [u8]) -> u32
@@ -33,7 +34,7 @@ fn count(table: &[u32], b: Box, out: &mut [u8]) -> u32
         (now (out .entry)) r (now (out .exit)) ⌝ }
 {
     let f = register::count::count(table, b.x1, b.x2, b.y1, b.y2).figures();
-    response::put_first(out, b'C', f.number, f.marks, f.visits)
+    response::put_first(out, b'C', f.number, &[f.marks, f.visits, f.sum, f.worst])
 }
 
 // The marks stand in the list that `which` names.
@@ -45,7 +46,7 @@ fn list(table: &[u32], first: &mut [u32], second: &mut [u32], b: Box, out: &mut 
         (now (out .entry)) r (now (out .exit)) ⌝ }
 {
     let f = register::list::list(table, b.x1, b.x2, b.y1, b.y2, first, second).figures();
-    let at = response::put_first(out, b'L', f.number, f.marks, f.visits);
+    let at = response::put_first(out, b'L', f.number, &[f.marks, f.visits]);
     if f.which == 0 {
         return at;
     }
@@ -70,7 +71,7 @@ pub fn perform(
 {
     match line {
         Line::Insert(m) => insert(table, m, out),
-        Line::Strike(m) => strike(table, m, out),
+        Line::Strike(x, y, tag) => strike(table, x, y, tag, out),
         Line::Count(b) => count(table, b, out),
         Line::List(b) => list(table, first, second, b, out),
         Line::Unknown => response::put_refusal(out, 11),

@@ -13,7 +13,7 @@ use Rattle.geometry.specs.declared.NewBox.{NewBox}
 use Rattle.geometry.specs.declared.NewBox.the-variants as newBox
 
 abbrev pub markValue : Mark → Sheet.Mark
-markValue m = record { x = m .x; y = m .y; tag = m .tag }
+markValue m = record { x = m .x; y = m .y; tag = m .tag; grade = m .grade }
 
 abbrev pub boxValue : Box → Sheet.Box
 boxValue b = record { x1 = b .x1; x2 = b .x2; y1 = b .y1; y2 = b .y2 }
@@ -28,10 +28,11 @@ keyY m = record { major = m .y; minor = m .x; tag = m .tag }
 unfoldable pub keyBelow : Key → Key → Bool
 keyBelow = lexicographic ((λ k. k .major) ∷ (λ k. k .minor) ∷ (λ k. k .tag) ∷ [])
 
--- "insert, strike: the mark: 5"
+-- "insert, strike: the mark: 5"; "12, grade outside 1 to 100" (R-1)
 abbrev pub markOutcome : NewMark → Outcome Sheet.Mark
 markOutcome (newMark.Valid m) = accepted (markValue m)
 markOutcome newMark.Outside = refused 5
+markOutcome newMark.Ungraded = refused 12
 
 -- "count, list: the box: 6"
 abbrev pub boxOutcome : NewBox → Outcome Sheet.Box

@@ -2,7 +2,7 @@
 ghost use mathlib.Core.Path.{_≡_};
 ghost use mathlib.Core.Bool.{not};
 ghost use Rattle.model.specs.Axis.{cellInside, cellClear};
-ghost use Rattle.model.specs.Sheet.{belowX, belowY, same, holds, markOutside, alongX, alongY};
+ghost use Rattle.model.specs.Sheet.{mark, belowX, belowY, same, holds, markOutside, gradeOutside, alongX, alongY};
 ghost use Rattle.model.specs.Refusals.{enterMark, enterBox};
 ghost use Rattle.geometry.specs.Values.{
   markValue,
@@ -14,17 +14,19 @@ ghost use Rattle.geometry.specs.Values.{
   boxOutcome,
 };
 
-// A flaw of the sheet: its place in hundredths of a millimetre, and a tag.
+// A flaw of the sheet: its place in hundredths of a millimetre, a tag, and a grade, which is no part of its sameness.
 pub struct Mark {
     pub x: u32,
     pub y: u32,
     pub tag: u32,
+    pub grade: u32,
 }
 
-// A mark of three words, or document 01's refusal 5.
+// A mark, or the refusals 5 (document 01) and 12 (R-1, "checked after 5").
 pub enum NewMark {
     Valid(Mark),
     Outside,
+    Ungraded,
 }
 
 // What an order compares: the first coordinate, then the second, then the tag.
@@ -59,14 +61,42 @@ impl Mark {
     // The largest coordinate.
     pub const MAX: u32 = 999999;
 
-    pub fn new(x: u32, y: u32, tag: u32) -> NewMark
-        ensures { λ r. ⌜ markOutcome r ≡ enterMark (record { x = x; y = y; tag = tag }) ⌝ }
+    // The worst grade.
+    pub const WORST: u32 = 100;
+
+    pub fn new(x: u32, y: u32, tag: u32, grade: u32) -> NewMark
+        ensures { λ r. ⌜ markOutcome r ≡ enterMark (mark x y tag grade) ⌝ }
     {
-        let m = Mark { x, y, tag };
+        let m = Mark { x, y, tag, grade };
         if m.is_outside() {
             return NewMark::Outside;
         }
+        if m.is_ungraded() {
+            return NewMark::Ungraded;
+        }
         NewMark::Valid(m)
+    }
+
+    // The mark that a strike names, by x, y and tag: no order and no sameness looks at its grade.
+    pub fn named(x: u32, y: u32, tag: u32) -> Mark
+        ensures { λ r. ⌜ markValue r ≡ mark x y tag 0 ⌝ }
+    {
+        Mark {
+            x,
+            y,
+            tag,
+            grade: 0,
+        }
+    }
+
+    // Whether the grade is 0 or beyond the worst.
+    pub fn is_ungraded(self) -> bool
+        ensures { λ r. ⌜ r ≡ gradeOutside (markValue self) ⌝ }
+    {
+        if self.grade < 1 {
+            return true;
+        }
+        Self::WORST < self.grade
     }
 
     // Whether x or y is beyond the largest coordinate.

@@ -10,7 +10,6 @@ use lib.ListN.{getD, drop}
 use lib.Seq.{append-snoc}
 use borrow.Author.Tests.{leb-true, le-leb, lt-leb, eqb-true, eqb-false, eq-eqb, ne-eqb}
 use Rattle.model.specs.Lists.{if_then_else_}
-use Rattle.model.specs.Sheet.{Mark, Box, mark, box}
 use Rattle.model.specs.Laws.{All, nil, cons}
 use Rattle.model.proofs.Logic.{by-cases, and-left, and-right}
 use Rattle.lines.specs.Text.{digits, fields}
@@ -26,9 +25,9 @@ use Rattle.lines.specs.Reading.{
   readField♯,
   andThen,
   atEnd,
-  readMark♯,
-  readBox♯,
   someOf,
+  readThree♯,
+  readFour♯,
   read♯,
 }
 use Rattle.lines.proofs.Digits.{digits-single, digits-more, digits-snoc, digits-rec}
@@ -58,7 +57,8 @@ given-if false o e = none-some e
 
 -- ---- what is read is what stands there
 
-readOn-sound : (l : List ℕ) (v : ℕ) (n : Number) → 0 < v → Word v → readOn♯ v l ≡ some n → Word (n .value) × (digits v ++ l ≡ digits (n .value) ++ n .rest)
+readOn-sound : (l : List ℕ) (v : ℕ) (n : Number) → 0 < v → Word v → readOn♯ v l ≡ some n
+    → Word (n .value) × (digits v ++ l ≡ digits (n .value) ++ n .rest)
 unfolding readOn♯
 readOn-sound [] v n pos w e = let same = some-same e in rw (← same) (w, refl)
 readOn-sound (b ∷ l) v n pos w e =
@@ -116,6 +116,13 @@ given-some : {A B : Type 0} {b : B} (f : A → B) (o : Option A) → someOf f o 
 given-some f none e = none-some e
 given-some f (some a) e = (a, refl, some-same e)
 
+-- numbers that were read, as a list
+abbrev listed3 : ℕ × ℕ × ℕ → List ℕ
+listed3 n = n .0 ∷ n .1 ∷ n .2 ∷ []
+
+abbrev listed4 : ℕ × ℕ × ℕ × ℕ → List ℕ
+listed4 n = n .0 ∷ n .1 ∷ n .2 ∷ n .3 ∷ []
+
 -- a field, and fields of which each number is a word
 pub data WrittenFields : List ℕ → List ℕ → Type 0 where
   last : {l : List ℕ} → l ≡ [] → WrittenFields l []
@@ -128,24 +135,21 @@ fields-sound {l} (next n e w) =
     let on = fields-sound w in
     (cons (f .0) (on .0), f .1 ∙ ap (λ (k : List ℕ). 44 ∷ digits (n .value) ++ k) (on .1))
 
-readMark-sound : (l : List ℕ) (m : Mark) → readMark♯ l ≡ some m → WrittenFields l (m .x ∷ m .y ∷ m .tag ∷ [])
-unfolding readMark♯
-readMark-sound l m e =
-    let x = given-then (readField♯ l) _ e in
-    let y = given-then (readField♯ (x .0 .rest)) _ (x .2) in
-    let tag = given-then (readField♯ (y .0 .rest)) _ (y .2) in
-    let end = given-end (tag .0 .rest) (mark (x .0 .value) (y .0 .value) (tag .0 .value)) (tag .2) in
-    rw (← end .1) (next (x .0) (x .1) (next (y .0) (y .1) (next (tag .0) (tag .1) (last (end .0)))))
+readThree-sound : (l : List ℕ) (n : ℕ × ℕ × ℕ) → readThree♯ l ≡ some n → WrittenFields l (listed3 n)
+unfolding readThree♯
+readThree-sound l n e =
+    let a = given-then (readField♯ l) _ e in
+    let b = given-then (readField♯ (a .0 .rest)) _ (a .2) in
+    let c = given-then (readField♯ (b .0 .rest)) _ (b .2) in
+    let end = given-end (c .0 .rest) (a .0 .value, b .0 .value, c .0 .value) (c .2) in
+    rw (← end .1) (next (a .0) (a .1) (next (b .0) (b .1) (next (c .0) (c .1) (last (end .0)))))
 
-readBox-sound : (l : List ℕ) (b : Box) → readBox♯ l ≡ some b → WrittenFields l (b .x1 ∷ b .x2 ∷ b .y1 ∷ b .y2 ∷ [])
-unfolding readBox♯
-readBox-sound l b e =
-    let x1 = given-then (readField♯ l) _ e in
-    let x2 = given-then (readField♯ (x1 .0 .rest)) _ (x1 .2) in
-    let y1 = given-then (readField♯ (x2 .0 .rest)) _ (x2 .2) in
-    let y2 = given-then (readField♯ (y1 .0 .rest)) _ (y1 .2) in
-    let end = given-end (y2 .0 .rest) (box (x1 .0 .value) (x2 .0 .value) (y1 .0 .value) (y2 .0 .value)) (y2 .2) in
-    rw (← end .1) (next (x1 .0) (x1 .1) (next (x2 .0) (x2 .1) (next (y1 .0) (y1 .1) (next (y2 .0) (y2 .1) (last (end .0))))))
+readFour-sound : (l : List ℕ) (n : ℕ × ℕ × ℕ × ℕ) → readFour♯ l ≡ some n → WrittenFields l (listed4 n)
+unfolding readFour♯
+readFour-sound l n e =
+    let a = given-then (readField♯ l) _ e in
+    let on = given-some _ (readThree♯ (a .0 .rest)) (a .2) in
+    rw (← on .2) (next (a .0) (a .1) (readThree-sound (a .0 .rest) (on .0) (on .1)))
 
 -- a letter, and what was read after it
 module _ {A : Type 0} (f : A → Command) (o : Option A) (b : ℕ) (l : List ℕ) (c : Command) where
@@ -163,13 +167,13 @@ unfolding read♯
 read-sound [] c e = none-some e
 read-sound (b ∷ l) c e =
     by-cases (eqb b 73)
-    (λ t. lettered insert (readMark♯ l) b l c 73 (λ m. m .x ∷ m .y ∷ m .tag ∷ []) (λ m. refl) (λ m. refl) (readMark-sound l) t (rw t at e))
+    (λ t. lettered _ (readFour♯ l) b l c 73 listed4 (λ n. refl) (λ n. refl) (readFour-sound l) t (rw t at e))
     (λ u. by-cases (eqb b 68)
-    (λ t. lettered strike (readMark♯ l) b l c 68 (λ m. m .x ∷ m .y ∷ m .tag ∷ []) (λ m. refl) (λ m. refl) (readMark-sound l) t (rw (u, t) at e))
+    (λ t. lettered _ (readThree♯ l) b l c 68 listed3 (λ n. refl) (λ n. refl) (readThree-sound l) t (rw (u, t) at e))
     (λ v. by-cases (eqb b 67)
-    (λ t. lettered count (readBox♯ l) b l c 67 (λ q. q .x1 ∷ q .x2 ∷ q .y1 ∷ q .y2 ∷ []) (λ q. refl) (λ q. refl) (readBox-sound l) t (rw (u, v, t) at e))
+    (λ t. lettered _ (readFour♯ l) b l c 67 listed4 (λ n. refl) (λ n. refl) (readFour-sound l) t (rw (u, v, t) at e))
     (λ w. by-cases (eqb b 76)
-    (λ t. lettered list (readBox♯ l) b l c 76 (λ q. q .x1 ∷ q .x2 ∷ q .y1 ∷ q .y2 ∷ []) (λ q. refl) (λ q. refl) (readBox-sound l) t (rw (u, v, w, t) at e))
+    (λ t. lettered _ (readFour♯ l) b l c 76 listed4 (λ n. refl) (λ n. refl) (readFour-sound l) t (rw (u, v, w, t) at e))
     (λ x. none-some (rw (u, v, w, x) at e)))))
 
 -- ---- what stands there is read
@@ -214,31 +218,26 @@ unfolding isDigit
 fields-stop [] = refl
 fields-stop (n ∷ ns) = refl
 
-readMark-complete : (m : Mark) → All Word (m .x ∷ m .y ∷ m .tag ∷ []) → readMark♯ (fields (m .x ∷ m .y ∷ m .tag ∷ [])) ≡ some m
-unfolding readMark♯
-readMark-complete m (cons hx (cons hy (cons ht nil))) =
+readThree-complete : (a b c : ℕ) → All Word (a ∷ b ∷ c ∷ []) → readThree♯ (fields (a ∷ b ∷ c ∷ [])) ≡ some (a, b, c)
+unfolding readThree♯
+readThree-complete a b c (cons ha (cons hb (cons hc nil))) =
     rw (
-      readField-complete (m .x) (fields (m .y ∷ m .tag ∷ [])) hx (fields-stop (m .y ∷ m .tag ∷ [])),
-      readField-complete (m .y) (fields (m .tag ∷ [])) hy (fields-stop (m .tag ∷ [])),
-      readField-complete (m .tag) [] ht (fields-stop []),
+      readField-complete a (fields (b ∷ c ∷ [])) ha (fields-stop (b ∷ c ∷ [])),
+      readField-complete b (fields (c ∷ [])) hb (fields-stop (c ∷ [])),
+      readField-complete c [] hc (fields-stop []),
     )
 
-readBox-complete : (b : Box) → All Word (b .x1 ∷ b .x2 ∷ b .y1 ∷ b .y2 ∷ []) → readBox♯ (fields (b .x1 ∷ b .x2 ∷ b .y1 ∷ b .y2 ∷ [])) ≡ some b
-unfolding readBox♯
-readBox-complete b (cons h1 (cons h2 (cons h3 (cons h4 nil)))) =
-    rw (
-      readField-complete (b .x1) (fields (b .x2 ∷ b .y1 ∷ b .y2 ∷ [])) h1 (fields-stop (b .x2 ∷ b .y1 ∷ b .y2 ∷ [])),
-      readField-complete (b .x2) (fields (b .y1 ∷ b .y2 ∷ [])) h2 (fields-stop (b .y1 ∷ b .y2 ∷ [])),
-      readField-complete (b .y1) (fields (b .y2 ∷ [])) h3 (fields-stop (b .y2 ∷ [])),
-      readField-complete (b .y2) [] h4 (fields-stop []),
-    )
+readFour-complete : (a b c d : ℕ) → All Word (a ∷ b ∷ c ∷ d ∷ []) → readFour♯ (fields (a ∷ b ∷ c ∷ d ∷ [])) ≡ some (a, b, c, d)
+unfolding readFour♯
+readFour-complete a b c d (cons h hs) =
+    rw (readField-complete a (fields (b ∷ c ∷ d ∷ [])) h (fields-stop (b ∷ c ∷ d ∷ [])), readThree-complete b c d hs)
 
 pub read-complete : (c : Command) → Words c → read♯ (written c) ≡ some c
 unfolding read♯
-read-complete (insert m) w = rw (readMark-complete m w)
-read-complete (strike m) w = rw (readMark-complete m w)
-read-complete (count b) w = rw (readBox-complete b w)
-read-complete (list b) w = rw (readBox-complete b w)
+read-complete (insert m) w = rw (readFour-complete (m .x) (m .y) (m .tag) (m .grade) w)
+read-complete (strike x y tag) w = rw (readThree-complete x y tag w)
+read-complete (count b) w = rw (readFour-complete (b .x1) (b .x2) (b .y1) (b .y2) w)
+read-complete (list b) w = rw (readFour-complete (b .x1) (b .x2) (b .y1) (b .y2) w)
 
 -- so a line is accepted just when it has one of the four forms
 pub reads-line : (l : List ℕ) → Reads l (read♯ l)

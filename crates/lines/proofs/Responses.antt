@@ -4,7 +4,8 @@ use mathlib.Core.Path.{_≡_, refl, sym, ap, _∙_}
 use mathlib.Core.List.{List, [], _∷_, _++_, append-nil, append-assoc}
 use native.Mathlib.Omega.{arith}
 use lib.Dec.{eqb}
-use lib.ListN.{length, length-append}
+use lib.ListN.{length, getD, take, length-append}
+use lib.Seq.{take-suc}
 use borrow.Author.Tests.{eq-eqb, ne-eqb}
 use Rattle.model.specs.Sheet.{Mark}
 use Rattle.model.specs.History.{Answer}
@@ -19,17 +20,23 @@ use Rattle.lines.proofs.Digits.{digits-short}
 
 -- ---- part by part
 
-pub refusal-parts : (n : ℕ) → ((82 ∷ []) ++ (44 ∷ digits n)) ++ (10 ∷ []) ≡ refusalLine n
-unfolding refusalLine answerLine
-refusal-parts n = rw (append-nil (digits n))
-
-pub answer-parts : (c a b : ℕ) → (((c ∷ []) ++ (44 ∷ digits a)) ++ (44 ∷ digits b)) ++ (10 ∷ []) ≡ answerLine c (a ∷ b ∷ [])
+pub answer-parts : (c : ℕ) (ns : List ℕ) → ((c ∷ []) ++ fields ns) ++ (10 ∷ []) ≡ answerLine c ns
 unfolding answerLine
-answer-parts c a b = rw (append-nil (digits b))
+answer-parts c ns = refl
 
-pub mark-parts : (m : Mark) → ((digits (m .x) ++ (44 ∷ digits (m .y))) ++ (44 ∷ digits (m .tag))) ++ (10 ∷ []) ≡ markLine m
+pub mark-parts : (m : Mark) → (digits (m .x) ++ fields (m .y ∷ m .tag ∷ m .grade ∷ [])) ++ (10 ∷ []) ≡ markLine m
 unfolding markLine
-mark-parts m = rw (append-nil (digits (m .tag)), append-assoc (digits (m .x)) (44 ∷ digits (m .y)) (44 ∷ digits (m .tag)))
+mark-parts m = refl
+
+fields-snoc : (ns : List ℕ) (n : ℕ) → fields (ns ++ n ∷ []) ≡ fields ns ++ (44 ∷ digits n)
+fields-snoc [] n = append-nil (44 ∷ digits n)
+fields-snoc (k ∷ ns) n = rw (fields-snoc ns n) (sym (append-assoc (44 ∷ digits k) (fields ns) (44 ∷ digits n)))
+
+-- one number of a list more
+pub fields-more : (ns : List ℕ) (i : ℕ) → i < length ns → fields (take i ns) ++ (44 ∷ digits (getD ns i 0)) ≡ fields (take (i + 1) ns)
+fields-more ns i h =
+    let e : i + 1 ≡ suc i = omega arith in
+    sym (rw (e, take-suc ns i 0 h) (fields-snoc (take i ns) (getD ns i 0)))
 
 markLines-append : (l r : List Mark) → markLines (l ++ r) ≡ markLines l ++ markLines r
 markLines-append [] r = refl
@@ -50,21 +57,6 @@ markLines-more xs n =
 
 -- ---- how long
 
--- "`x,y,tag`" with its line feed
-pub mark-short : (m : Mark) → Word (m .x) → Word (m .y) → Word (m .tag) → length (markLine m) ≤ 33
-unfolding markLine
-mark-short m hx hy ht =
-    rw (append-nil (digits (m .tag)))
-    (omega (
-      arith,
-      length-append (digits (m .x) ++ 44 ∷ (digits (m .y) ++ 44 ∷ digits (m .tag))) (10 ∷ []),
-      length-append (digits (m .x)) (44 ∷ (digits (m .y) ++ 44 ∷ digits (m .tag))),
-      length-append (digits (m .y)) (44 ∷ digits (m .tag)),
-      digits-short (m .x) hx,
-      digits-short (m .y) hy,
-      digits-short (m .tag) ht,
-    ))
-
 fields-short : (ns : List ℕ) → All Word ns → length (fields ns) ≤ 11 * length ns
 fields-short [] nil = omega arith
 fields-short (n ∷ ns) (cons h hs) = omega (arith, length-append (digits n) (fields ns), digits-short n h, fields-short ns hs)
@@ -73,32 +65,38 @@ answer-short : (c : ℕ) (ns : List ℕ) → All Word ns → length (answerLine 
 unfolding answerLine
 answer-short c ns h = omega (arith, length-append (c ∷ fields ns) (10 ∷ []), fields-short ns h)
 
-pub refusal-short : (n : ℕ) → Word n → length (refusalLine n) ≤ 24
-unfolding refusalLine
-refusal-short n h = omega (arith, answer-short 82 (n ∷ []) (cons h nil))
-
-pub figures-short : (c a b : ℕ) → Word a → Word b → length (answerLine c (a ∷ b ∷ [])) ≤ 24
-figures-short c a b ha hb = answer-short c (a ∷ b ∷ []) (cons ha (cons hb nil))
-
 -- a mark of words
 abbrev pub MarkWord : Mark → Type 0
-MarkWord m = All Word (m .x ∷ m .y ∷ m .tag ∷ [])
+MarkWord m = All Word (m .x ∷ m .y ∷ m .tag ∷ m .grade ∷ [])
 
-marks-short : (l : List Mark) → All MarkWord l → length (markLines l) ≤ 33 * length l
+-- "`x,y,tag,grade`" with its line feed
+mark-short : (m : Mark) → MarkWord m → length (markLine m) ≤ 44
+unfolding markLine
+mark-short m (cons hx hs) =
+    let behind : List ℕ = m .y ∷ m .tag ∷ m .grade ∷ [] in
+    omega (
+      arith,
+      length-append (digits (m .x) ++ fields behind) (10 ∷ []),
+      length-append (digits (m .x)) (fields behind),
+      digits-short (m .x) hx,
+      fields-short behind hs,
+    )
+
+marks-short : (l : List Mark) → All MarkWord l → length (markLines l) ≤ 44 * length l
 marks-short [] nil = omega arith
-marks-short (m ∷ l) (cons (cons hx (cons hy (cons ht nil))) hs) =
-    omega (arith, length-append (markLine m) (markLines l), mark-short m hx hy ht, marks-short l hs)
+marks-short (m ∷ l) (cons h hs) = omega (arith, length-append (markLine m) (markLines l), mark-short m h, marks-short l hs)
 
 -- no form is turned away by the 48 bytes that a line may have
 pub written-short : (c : Command) → Words c → length (written c) ≤ 48
 written-short (insert m) h = omega (arith, fields-short (numbers (insert m)) h)
-written-short (strike m) h = omega (arith, fields-short (numbers (strike m)) h)
+written-short (strike x y tag) h = omega (arith, fields-short (numbers (strike x y tag)) h)
 written-short (count b) h = omega (arith, fields-short (numbers (count b)) h)
 written-short (list b) h = omega (arith, fields-short (numbers (list b)) h)
 
--- a response's first line has at most 24 bytes, and each mark's at most 33
+-- a response's first line has at most 46 bytes, and each mark's at most 44
 module _ (c : Command) (a : Answer) where
-  pub printed-short : Word (a .number) → All Word (figures c a) → All MarkWord (marksAfter c a) → length (printed c a) ≤ 24 + 33 * length (marksAfter c a)
+  pub printed-short : Word (a .number) → All Word (figures c a) → All MarkWord (marksAfter c a)
+      → length (printed c a) ≤ 46 + 44 * length (marksAfter c a)
   unfolding printed refusalLine
   printed-short hn hf hm =
       by-cases (eqb (a .number) 0)
@@ -106,16 +104,16 @@ module _ (c : Command) (a : Answer) where
         arith,
         length-append (answerLine (letter c) (figures c a)) (markLines (marksAfter c a)),
         answer-short (letter c) (figures c a) hf,
-        two c a,
+        few c a,
         marks-short (marksAfter c a) hm,
       )))
       (λ u. rw u (omega (arith, answer-short 82 (a .number ∷ []) (cons hn nil))))
     where
-      two : (c : Command) (a : Answer) → length (figures c a) ≡ 2
-      two (insert m) a = refl
-      two (strike m) a = refl
-      two (count b) a = refl
-      two (list b) a = refl
+      few : (c : Command) (a : Answer) → length (figures c a) ≤ 4
+      few (insert m) a = omega arith
+      few (strike x y tag) a = omega arith
+      few (count b) a = omega arith
+      few (list b) a = omega arith
 
   -- a response of one line
   pub printed-first : marksAfter c a ≡ [] → printed c a ≡ firstLine (letter c) (a .number) (figures c a)

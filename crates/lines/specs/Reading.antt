@@ -6,7 +6,7 @@ use mathlib.Core.Option.{Option, none, some}
 use lib.Dec.{leb, eqb}
 use lib.ListN.{getD, drop}
 use Rattle.model.specs.Lists.{if_then_else_}
-use Rattle.model.specs.Sheet.{Mark, Box, mark, box}
+use Rattle.model.specs.Sheet.{mark, box}
 use Rattle.lines.specs.Text.{comma, zeroDigit}
 use Rattle.lines.specs.Commands.{Command, insert, strike, count, list}
 
@@ -49,31 +49,26 @@ abbrev pub atEnd : {A : Type 0} → List ℕ → A → Option A
 atEnd [] a = some a
 atEnd (b ∷ l) a = none
 
-unfoldable pub readMark♯ : List ℕ → Option Mark
-readMark♯ l =
-    andThen (readField♯ l) (λ x.
-    andThen (readField♯ (x .rest)) (λ y.
-    andThen (readField♯ (y .rest)) (λ tag.
-    atEnd (tag .rest) (mark (x .value) (y .value) (tag .value)))))
-
-unfoldable pub readBox♯ : List ℕ → Option Box
-readBox♯ l =
-    andThen (readField♯ l) (λ x1.
-    andThen (readField♯ (x1 .rest)) (λ x2.
-    andThen (readField♯ (x2 .rest)) (λ y1.
-    andThen (readField♯ (y1 .rest)) (λ y2.
-    atEnd (y2 .rest) (box (x1 .value) (x2 .value) (y1 .value) (y2 .value))))))
-
 abbrev pub someOf : {A B : Type 0} → (A → B) → Option A → Option B
 someOf f none = none
 someOf f (some a) = some (f a)
+
+unfoldable pub readThree♯ : List ℕ → Option (ℕ × ℕ × ℕ)
+readThree♯ l =
+    andThen (readField♯ l) (λ a.
+    andThen (readField♯ (a .rest)) (λ b.
+    andThen (readField♯ (b .rest)) (λ c.
+    atEnd (c .rest) (a .value, b .value, c .value))))
+
+unfoldable pub readFour♯ : List ℕ → Option (ℕ × ℕ × ℕ × ℕ)
+readFour♯ l = andThen (readField♯ l) (λ a. someOf (λ n. (a .value, n .0, n .1, n .2)) (readThree♯ (a .rest)))
 
 unfoldable pub read♯ : List ℕ → Option Command
 read♯ l =
     let c : ℕ = getD l 0 0 in
     let l′ : List ℕ = drop 1 l in
-    if eqb c 73 then someOf insert (readMark♯ l′)
-    else (if eqb c 68 then someOf strike (readMark♯ l′)
-    else (if eqb c 67 then someOf count (readBox♯ l′)
-    else (if eqb c 76 then someOf list (readBox♯ l′)
+    if eqb c 73 then someOf (λ n. insert (mark (n .0) (n .1) (n .2) (n .3))) (readFour♯ l′)
+    else (if eqb c 68 then someOf (λ n. strike (n .0) (n .1) (n .2)) (readThree♯ l′)
+    else (if eqb c 67 then someOf (λ n. count (box (n .0) (n .1) (n .2) (n .3))) (readFour♯ l′)
+    else (if eqb c 76 then someOf (λ n. list (box (n .0) (n .1) (n .2) (n .3))) (readFour♯ l′)
     else none)))

@@ -24,24 +24,24 @@ firstLine c number ns = if eqb number 0 then answerLine c ns else refusalLine nu
 abbrev pub notALine : List ℕ
 notALine = refusalLine 11
 
--- "a line `x,y,tag` for each mark"
+-- "list lines `x,y,tag,grade`" (R-1)
 unfoldable pub markLine : Mark → List ℕ
-markLine m = digits (m .x) ++ fields (m .y ∷ m .tag ∷ []) ++ lineFeed ∷ []
+markLine m = digits (m .x) ++ fields (m .y ∷ m .tag ∷ m .grade ∷ []) ++ lineFeed ∷ []
 
 abbrev pub markLines : List Mark → List ℕ
 markLines [] = []
 markLines (m ∷ l) = markLine m ++ markLines l
 
--- "It prints `I,live,rebuilt`, `D,live,rebuilt`, `C,count,visits`, `L,count,visits` followed by a line `x,y,tag` for each mark"
+-- "It prints `I,live,rebuilt`, `D,live,rebuilt`, .., `L,count,visits` followed by a line .. for each mark", and "`C,count,visits,sum,worst`" (R-1)
 abbrev pub figures : Command → Answer → List ℕ
 figures (insert m) a = a .live ∷ a .rebuilt ∷ []
-figures (strike m) a = a .live ∷ a .rebuilt ∷ []
-figures (count b) a = a .k ∷ a .visits ∷ []
+figures (strike x y tag) a = a .live ∷ a .rebuilt ∷ []
+figures (count b) a = a .k ∷ a .visits ∷ a .sum ∷ a .worst ∷ []
 figures (list b) a = a .k ∷ a .visits ∷ []
 
 abbrev pub marksAfter : Command → Answer → List Mark
 marksAfter (insert m) a = []
-marksAfter (strike m) a = []
+marksAfter (strike x y tag) a = []
 marksAfter (count b) a = []
 marksAfter (list b) a = a .listed
 

@@ -2,72 +2,64 @@
 ghost use mathlib.Core.Path.{_≡_};
 ghost use lib.ListN.{drop};
 ghost use Rattle.lines.specs.Commands.{Reads};
-ghost use Rattle.lines.specs.Reading.{readMark♯, readBox♯, read♯};
-ghost use Rattle.lines.specs.Values.{readMark, readBox, lineOf};
+ghost use Rattle.lines.specs.Reading.{readThree♯, readFour♯, read♯};
+ghost use Rattle.lines.specs.Values.{threeValue, fourValue, lineOf};
 use crate::number;
 use crate::number::Field;
 use geometry::Box;
 use geometry::Mark;
 
-// A command with its mark or box, which may be any words; or a line that has none of the four forms, document 01's refusal 11.
+// A command with its numbers, which may be any words; or a line that has none of the four forms, document 01's refusal 11.
 pub enum Line {
     Insert(Mark),
-    Strike(Mark),
+    // x, y, tag
+    Strike(u32, u32, u32),
     Count(Box),
     List(Box),
     Unknown,
 }
 
-// What the rest of a line holds.
-enum MarkRead {
-    Whole(Mark),
+// What the rest of a line holds: so many numbers, or anything else.
+enum Three {
+    Numbers(u32, u32, u32),
     Nothing,
 }
 
-enum BoxRead {
-    Whole(Box),
+enum Four {
+    Numbers(u32, u32, u32, u32),
     Nothing,
 }
 
-// A mark's three numbers from a place on, and nothing after them.
-fn read_mark(line: &[u8], at: usize) -> MarkRead
-    ensures { λ r. ⌜ readMark r ≡ readMark♯ (drop at (now (line .entry))) ⌝ }
+// Three numbers from a place on, and nothing after them.
+fn read_three(line: &[u8], at: usize) -> Three
+    ensures { λ r. ⌜ threeValue r ≡ readThree♯ (drop at (now (line .entry))) ⌝ }
 {
-    let Field::Number(x, after_x) = number::read_field(line, at) else {
-        return MarkRead::Nothing;
+    let Field::Number(first, after_first) = number::read_field(line, at) else {
+        return Three::Nothing;
     };
-    let Field::Number(y, after_y) = number::read_field(line, after_x) else {
-        return MarkRead::Nothing;
+    let Field::Number(second, after_second) = number::read_field(line, after_first) else {
+        return Three::Nothing;
     };
-    let Field::Number(tag, end) = number::read_field(line, after_y) else {
-        return MarkRead::Nothing;
+    let Field::Number(third, end) = number::read_field(line, after_second) else {
+        return Three::Nothing;
     };
     if end < line.len() {
-        return MarkRead::Nothing;
+        return Three::Nothing;
     }
-    MarkRead::Whole(Mark { x, y, tag })
+    Three::Numbers(first, second, third)
 }
 
-// A box's four numbers from a place on, and nothing after them.
-fn read_box(line: &[u8], at: usize) -> BoxRead
-    ensures { λ r. ⌜ readBox r ≡ readBox♯ (drop at (now (line .entry))) ⌝ }
+// Four numbers from a place on, and nothing after them.
+fn read_four(line: &[u8], at: usize) -> Four
+    ensures { λ r. ⌜ fourValue r ≡ readFour♯ (drop at (now (line .entry))) ⌝ }
 {
-    let Field::Number(x1, after_x1) = number::read_field(line, at) else {
-        return BoxRead::Nothing;
+    let Field::Number(first, next) = number::read_field(line, at) else {
+        return Four::Nothing;
     };
-    let Field::Number(x2, after_x2) = number::read_field(line, after_x1) else {
-        return BoxRead::Nothing;
+    let Three::Numbers(second, third, fourth) = read_three(line, next) else {
+        return Four::Nothing;
     };
-    let Field::Number(y1, after_y1) = number::read_field(line, after_x2) else {
-        return BoxRead::Nothing;
-    };
-    let Field::Number(y2, end) = number::read_field(line, after_y1) else {
-        return BoxRead::Nothing;
-    };
-    if end < line.len() {
-        return BoxRead::Nothing;
-    }
-    BoxRead::Whole(Box { x1, x2, y1, y2 })
+    Four::Numbers(first, second, third, fourth)
 }
 
 // The command of a line.
@@ -76,28 +68,28 @@ fn parse(line: &[u8]) -> Line
 {
     let letter = number::byte(line, 0);
     if letter == b'I' {
-        let MarkRead::Whole(m) = read_mark(line, 1) else {
+        let Four::Numbers(x, y, tag, grade) = read_four(line, 1) else {
             return Line::Unknown;
         };
-        return Line::Insert(m);
+        return Line::Insert(Mark { x, y, tag, grade });
     }
     if letter == b'D' {
-        let MarkRead::Whole(m) = read_mark(line, 1) else {
+        let Three::Numbers(x, y, tag) = read_three(line, 1) else {
             return Line::Unknown;
         };
-        return Line::Strike(m);
+        return Line::Strike(x, y, tag);
     }
     if letter == b'C' {
-        let BoxRead::Whole(b) = read_box(line, 1) else {
+        let Four::Numbers(x1, x2, y1, y2) = read_four(line, 1) else {
             return Line::Unknown;
         };
-        return Line::Count(b);
+        return Line::Count(Box { x1, x2, y1, y2 });
     }
     if letter == b'L' {
-        let BoxRead::Whole(b) = read_box(line, 1) else {
+        let Four::Numbers(x1, x2, y1, y2) = read_four(line, 1) else {
             return Line::Unknown;
         };
-        return Line::List(b);
+        return Line::List(Box { x1, x2, y1, y2 });
     }
     Line::Unknown
 }

@@ -32,13 +32,14 @@ pub extern "C" fn register_insert(
     x: u32,
     y: u32,
     tag: u32,
+    grade: u32,
     live: &mut u32,
     rebuilt: &mut u32,
 ) -> u32
-    ensures { λ r. ⌜ Performs (history.insert (mark x y tag)) (alone (now (table .entry))) (alone (now (table .exit)))
+    ensures { λ r. ⌜ Performs (history.insert (mark x y tag grade)) (alone (now (table .entry))) (alone (now (table .exit)))
         (updateGiven r (now (live .exit)) (now (rebuilt .exit))) ⌝ }
 {
-    let inserted = register::insert::insert(table, x, y, tag).figures();
+    let inserted = register::insert::insert(table, x, y, tag, grade).figures();
     *live = inserted.live;
     *rebuilt = inserted.rebuilt;
     inserted.number
@@ -53,7 +54,7 @@ pub extern "C" fn register_strike(
     live: &mut u32,
     rebuilt: &mut u32,
 ) -> u32
-    ensures { λ r. ⌜ Performs (history.strike (mark x y tag)) (alone (now (table .entry))) (alone (now (table .exit)))
+    ensures { λ r. ⌜ Performs (history.strike (mark x y tag 0)) (alone (now (table .entry))) (alone (now (table .exit)))
         (updateGiven r (now (live .exit)) (now (rebuilt .exit))) ⌝ }
 {
     let struck = register::strike::strike(table, x, y, tag).figures();
@@ -71,13 +72,17 @@ pub extern "C" fn register_count(
     y2: u32,
     count: &mut u32,
     visits: &mut u32,
+    sum: &mut u32,
+    worst: &mut u32,
 ) -> u32
     ensures { λ r. ⌜ Performs (history.count (box x1 x2 y1 y2)) (alone (now (table .entry))) (alone (now (table .entry)))
-        (countGiven r (now (count .exit)) (now (visits .exit))) ⌝ }
+        (countGiven r (now (count .exit)) (now (visits .exit)) (now (sum .exit)) (now (worst .exit))) ⌝ }
 {
     let counted = register::count::count(table, x1, x2, y1, y2).figures();
     *count = counted.marks;
     *visits = counted.visits;
+    *sum = counted.sum;
+    *worst = counted.worst;
     counted.number
 }
 

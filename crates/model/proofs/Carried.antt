@@ -16,7 +16,8 @@ use Rattle.model.proofs.Lists.{all-map, countIf-append, countIf-none, i
 use Rattle.model.proofs.Sorted.{below-apart, distinct-cons, distinct-left, distinct-right, sorted-left, sorted-right, sorted-distinct}
 use Rattle.model.proofs.Tree.{build-induction, rebalance-marks, insert-marks, strike-marks, all-above, left-all-below, marks-pos}
 
-module _ {M B I : Type 0} (S : Space M B) (E : SamenessLaws S) (A : Axis M B) (O : AxisLaws S A) (R : Register M B I) (settled : B → M → Bool) (bound : ℕ → ℕ)
+module _
+    {M B I : Type 0} (S : Space M B) (E : SamenessLaws S) (A : Axis M B) (O : AxisLaws S A) (R : Register M B I) (settled : B → M → Bool) (bound : ℕ → ℕ)
     (L : RegisterLaws S R settled bound) where
   abbrev pub Carried : Tree M I → Type 0
   Carried (leaf m) = Unit {0}
@@ -36,7 +37,8 @@ module _ {M B I : Type 0} (S : Space M B) (E : SamenessLaws S) (A : Axis M B) (O
       l p u
 
   -- insertion
-  insert-countIf : (p : M → Bool) (m : M) (t : Tree M I) → Sorted A (marks t) → countIf p (marks (insertLeaf A R m t)) ≡ indicator (p m) + countIf p (marks t)
+  insert-countIf : (p : M → Bool) (m : M) (t : Tree M I) → Sorted A (marks t)
+      → countIf p (marks (insertLeaf A R m t)) ≡ indicator (p m) + countIf p (marks t)
   insert-countIf p m t s = ap (countIf p) (insert-marks S E A O R m t s) ∙ insertSorted-countIf (A .below) p m (marks t)
 
   pub insert-carried : (m : M) (t : Tree M I) → Sorted A (marks t) → countIf (S .same m) (marks t) ≡ 0 → Carried t → Carried (insertLeaf A R m t)
@@ -68,11 +70,13 @@ module _ {M B I : Type 0} (S : Space M B) (E : SamenessLaws S) (A : Axis M B) (O
       ))
 
   -- strike
-  withLeft-carried : (i : I) (o : Option (Tree M I)) (r : Tree M I) → L .Represents i (marksOf o ++ marks r) → CarriedOf o → Carried r → Carried (withLeft i o r)
+  withLeft-carried : (i : I) (o : Option (Tree M I)) (r : Tree M I) → L .Represents i (marksOf o ++ marks r) → CarriedOf o → Carried r
+      → Carried (withLeft i o r)
   withLeft-carried i none r h c d = d
   withLeft-carried i (some l) r h c d = (h, c, d)
 
-  withRight-carried : (i : I) (l : Tree M I) (o : Option (Tree M I)) → L .Represents i (marks l ++ marksOf o) → Carried l → CarriedOf o → Carried (withRight i l o)
+  withRight-carried : (i : I) (l : Tree M I) (o : Option (Tree M I)) → L .Represents i (marks l ++ marksOf o) → Carried l → CarriedOf o
+      → Carried (withRight i l o)
   withRight-carried i l none h c d = c
   withRight-carried i l (some r) h c d = (h, c, d)
 

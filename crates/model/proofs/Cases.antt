@@ -6,8 +6,8 @@ use mathlib.Core.List.{List, [], _∷_, _++_, map, head-eq-of-cons-eq, tail-eq-o
 use mathlib.Core.Option.{none, some}
 use Rattle.model.specs.Sizes.{riseD, D, W, capacityOutside, risePasses, passes}
 use Rattle.model.specs.Tree.{leaf, node, weight}
-use Rattle.model.specs.Sheet.{mark, box, markOutside, boxCrossed, belowX, belowY, same, fromX1, toX2, fromY1, toY2, holds, Main}
-use Rattle.model.specs.Refusals.{openTable, enterMark, enterBox}
+use Rattle.model.specs.Sheet.{mark, box, markOutside, gradeOutside, boxCrossed, belowX, belowY, same, fromX1, toX2, fromY1, toY2, holds, Main}
+use Rattle.model.specs.Refusals.{openTable, enterMark, nameMark, enterBox}
 use Rattle.model.specs.History.{Call, openFor, insert, strike, count, list, State, Answer, refusal, updated, counted, listedIn, next, answers, after}
 use Rattle.model.specs.Laws.{All, nil, cons}
 
@@ -41,23 +41,24 @@ rootWeights (some (node i l r)) = weight l ∷ weight r ∷ []
 
 -- the sample's three marks, and P8's row with P9's fifth
 abbrev three : List Call
-three = insert (mark 10 10 1) ∷ insert (mark 20 5 2) ∷ insert (mark 30 20 3) ∷ []
+three = insert (mark 10 10 1 5) ∷ insert (mark 20 5 2 7) ∷ insert (mark 30 20 3 100) ∷ []
 
 abbrev row : List Call
-row = insert (mark 1 0 0) ∷ insert (mark 2 0 0) ∷ insert (mark 3 0 0) ∷ insert (mark 4 0 0) ∷ insert (mark 5 0 0) ∷ []
+row = insert (mark 1 0 0 1) ∷ insert (mark 2 0 0 1) ∷ insert (mark 3 0 0 1) ∷ insert (mark 4 0 0 1) ∷ insert (mark 5 0 0 1) ∷ []
 
 -- the sample's calls; its last line, `Q`, is no call
 abbrev sample : List Call
 sample =
-    insert (mark 10 10 1)
-    ∷ insert (mark 20 5 2)
-    ∷ insert (mark 30 20 3)
+    insert (mark 10 10 1 5)
+    ∷ insert (mark 20 5 2 7)
+    ∷ insert (mark 30 20 3 100)
     ∷ count (box 0 20 0 10)
-    ∷ list (box 0 30 0 10) 180 180
-    ∷ strike (mark 10 10 1)
+    ∷ list (box 0 30 0 10) 160 160
+    ∷ strike (mark 10 10 1 0)
     ∷ count (box 0 30 0 30)
-    ∷ strike (mark 10 10 1)
-    ∷ insert (mark 1000000 0 1)
+    ∷ strike (mark 10 10 1 0)
+    ∷ insert (mark 1000000 0 1 101)
+    ∷ insert (mark 40 0 1 101)
     ∷ count (box 20 10 0 0)
     ∷ []
 
@@ -66,30 +67,34 @@ sampleAnswers =
     updated 1 0
     ∷ updated 2 0
     ∷ updated 3 0
-    ∷ counted 2 5
-    ∷ listedIn 2 (mark 10 10 1 ∷ mark 20 5 2 ∷ []) 6
+    ∷ counted 2 5 12 7
+    ∷ listedIn 2 (mark 10 10 1 5 ∷ mark 20 5 2 7 ∷ []) 6
     ∷ updated 2 0
-    ∷ counted 2 2
+    ∷ counted 2 2 107 100
     ∷ refusal 9 0
     ∷ refusal 5 0
+    ∷ refusal 12 0
     ∷ refusal 6 0
     ∷ []
 
 pub table : List Case
 table =
     (numbers (D 1 ∷ D 2 ∷ D 3 ∷ D 4 ∷ D 5 ∷ D 8 ∷ []) is numbers (0 ∷ 2 ∷ 3 ∷ 4 ∷ 5 ∷ 7 ∷ []))  -- P1
-    ∷ (numbers (W 1 ∷ W 60 ∷ []) is numbers (96 ∷ 15424 ∷ []))  -- P2
-    ∷ (gives (answers (openFor 1 95 ∷ openFor 1 96 ∷ []) blank) is gives (refusal 2 0 ∷ updated 0 0 ∷ []))  -- P3
-    ∷ (run 60 (count (box 0 30 0 30) ∷ []) is gives (counted 0 0 ∷ []))  -- P4
-    ∷ (run 60 (insert (mark 7 8 9) ∷ count (box 7 7 8 8) ∷ []) is gives (updated 1 0 ∷ counted 1 1 ∷ []))  -- P5
-    ∷ (run 60 (three ++ (count (box 0 20 0 10) ∷ [])) is gives (updated 1 0 ∷ updated 2 0 ∷ updated 3 0 ∷ counted 2 5 ∷ []))  -- P6
-    ∷ (run 60 (three ++ (count (box 0 30 0 10) ∷ [])) is gives (updated 1 0 ∷ updated 2 0 ∷ updated 3 0 ∷ counted 2 6 ∷ []))  -- P7
-    ∷ (run 60 row is gives (updated 1 0 ∷ updated 2 0 ∷ updated 3 0 ∷ updated 4 0 ∷ updated 5 5 ∷ []))  -- P8, P9
-    ∷ (numbers (rootWeights (after row (opened 60) .tree)) is numbers (2 ∷ 3 ∷ []))  -- P9
-    ∷ (run 1 (insert (mark 1 1 1) ∷ insert (mark 2 2 2) ∷ insert (mark 1 1 1) ∷ []) is gives (updated 1 0 ∷ refusal 7 0 ∷ refusal 8 0 ∷ []))  -- P10
-    ∷ (run 1 (insert (mark 1 1 1) ∷ strike (mark 1 1 1) ∷ insert (mark 2 2 2) ∷ []) is gives (updated 1 0 ∷ updated 0 0 ∷ updated 1 0 ∷ []))  -- P11
-    ∷ (run 60 (insert (mark 5 6 1) ∷ insert (mark 5 6 2) ∷ count (box 5 5 6 6) ∷ []) is gives (updated 1 0 ∷ updated 2 0 ∷ counted 2 2 ∷ []))  -- P12
-    ∷ (run 60 sample is gives sampleAnswers)
+    ∷ (numbers (W 1 ∷ W 40 ∷ []) is numbers (104 ∷ 13184 ∷ []))  -- P2
+    ∷ (gives (answers (openFor 1 103 ∷ openFor 1 104 ∷ []) blank) is gives (refusal 2 0 ∷ updated 0 0 ∷ []))  -- P3
+    ∷ (run 40 (count (box 0 30 0 30) ∷ []) is gives (counted 0 0 0 0 ∷ []))  -- P4
+    ∷ (run 40 (insert (mark 7 8 9 3) ∷ count (box 7 7 8 8) ∷ []) is gives (updated 1 0 ∷ counted 1 1 3 3 ∷ []))  -- P5
+    ∷ (run 40 (three ++ (count (box 0 20 0 10) ∷ [])) is gives (updated 1 0 ∷ updated 2 0 ∷ updated 3 0 ∷ counted 2 5 12 7 ∷ []))  -- P6
+    ∷ (run 40 (three ++ (count (box 0 30 0 10) ∷ [])) is gives (updated 1 0 ∷ updated 2 0 ∷ updated 3 0 ∷ counted 2 6 12 7 ∷ []))  -- P7
+    ∷ (run 40 row is gives (updated 1 0 ∷ updated 2 0 ∷ updated 3 0 ∷ updated 4 0 ∷ updated 5 5 ∷ []))  -- P8, P9
+    ∷ (numbers (rootWeights (after row (opened 40) .tree)) is numbers (2 ∷ 3 ∷ []))  -- P9
+    ∷ (run 1 (insert (mark 1 1 1 2) ∷ insert (mark 2 2 2 100) ∷ insert (mark 1 1 1 9) ∷ [])
+    is gives (updated 1 0 ∷ refusal 7 0 ∷ refusal 8 0 ∷ []))  -- P10
+    ∷ (run 1 (insert (mark 1 1 1 2) ∷ strike (mark 1 1 1 0) ∷ insert (mark 2 2 2 100) ∷ [])
+    is gives (updated 1 0 ∷ updated 0 0 ∷ updated 1 0 ∷ []))  -- P11
+    ∷ (run 40 (insert (mark 5 6 1 40) ∷ insert (mark 5 6 2 30) ∷ count (box 5 5 6 6) ∷ [])
+    is gives (updated 1 0 ∷ updated 2 0 ∷ counted 2 2 70 40 ∷ []))  -- P12
+    ∷ (run 40 sample is gives sampleAnswers)
     ∷ []
 
 all-equal : (l : List Case) → map (λ c. c .actual) l ≡ map (λ c. c .expected) l → All (λ c. c .actual ≡ c .expected) l
@@ -97,5 +102,5 @@ all-equal [] e = nil
 all-equal (c ∷ l) e = cons (head-eq-of-cons-eq e) (all-equal l (tail-eq-of-cons-eq e))
 
 pub cases-hold : All (λ c. c .actual ≡ c .expected) table
-unfolding table riseD D W capacityOutside risePasses passes markOutside boxCrossed belowX belowY same fromX1 toX2 fromY1 toY2 holds openTable enterMark enterBox
+unfolding table riseD D W capacityOutside risePasses passes markOutside gradeOutside boxCrossed belowX belowY same fromX1 toX2 fromY1 toY2 holds openTable enterMark nameMark enterBox
 cases-hold = all-equal table refl

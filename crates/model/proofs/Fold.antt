@@ -1,7 +1,7 @@
 -- The innermost register keeps a register's laws, and so does a fold of one that keeps them: over any kind of mark, any axis, any inner register.
 -- Assumes nothing.
 use Prim.Native.Nat.{ℕ, _+_, _*_, _≤_, _<_}
-use mathlib.Core.Path.{_≡_, refl, sym, ap, _∙_}
+use mathlib.Core.Path.{_≡_, refl, sym, ap, ap₂, _∙_}
 use mathlib.Core.Bool.{Bool, true, _&&_}
 use mathlib.Core.List.{List, [], _∷_, _++_}
 use mathlib.Core.Option.{Option, none, some}
@@ -9,17 +9,21 @@ use native.Mathlib.Omega.{arith}
 use native.Mathlib.Nat.{mul-le-mul}
 use lib.ListN.{length, length-append}
 use Rattle.model.specs.Lists.{countIf, filterBy, removeFirst, sort}
+use Rattle.model.specs.Totals.{Operation, figureIf, totalIf, counting}
 use Rattle.model.specs.Axis.{Space, Axis, onSide}
 use Rattle.model.specs.Register.{Register, innermost}
-use Rattle.model.specs.Tree.{Tree, leaf, node, weight, marks, marksOf, Balanced, insertLeaf, strikeLeaf}
+use Rattle.model.specs.Tree.{Tree, leaf, node, weight, marks, marksOf, least, Balanced, insertLeaf, strikeLeaf}
 use Rattle.model.specs.Search.{inside, search, searchList}
-use Rattle.model.specs.Fold.{rebalanceFold, countFold, listFold, fold}
+use Rattle.model.specs.Fold.{strikeFold, rebalanceFold, rebuiltOf, strikeRebuilt, countFold, listFold, fold}
 use Rattle.model.specs.Sizes.{D}
-use Rattle.model.specs.Laws.{SameBag, SamenessLaws, Distinct, AxisLaws, All, nil, Sorted, sorted[], sorted∷, RegisterLaws}
-use Rattle.model.proofs.Lists.{all-left, all-right, all-both, all-map, all-alike, countIf-append, countIf-all, countIf-none, sameBag-length, filterBy-all, filterBy-none, filterBy-append, filterBy-alike, insertSorted-countIf, sort-countIf, removeFirst-alike}
-use Rattle.model.proofs.Sorted.{distinct-head, sorted-left, sorted-right, sorted-distinct, sort-sorted}
+use Rattle.model.specs.Laws.{SameBag, OperationLaws, SamenessLaws, Distinct, AxisLaws, All, nil, Sorted, sorted[], sorted∷, RegisterLaws}
+use Rattle.model.proofs.Lists.{all-left, all-right, all-both, all-map, all-alike, countIf-append, sameBag-length, filterBy-all}
+use Rattle.model.proofs.Lists.{filterBy-none, filterBy-append, filterBy-alike, insertSorted-countIf, sort-countIf, removeFirst-alike}
+use Rattle.model.proofs.Totals.{total-length, join-zero, total-append, totalIf-all, totalIf-none, sameBag-total}
+use Rattle.model.proofs.Sorted.{distinct-head, below-alike, sorted-left, sorted-right, sorted-distinct, sort-sorted}
 use Rattle.model.proofs.Sizes.{D-rises}
-use Rattle.model.proofs.Tree.{weight-pos, weight-marks, nodes, nodes-weight, build-marks, build-balanced, rebalance-marks, rebalance-balanced, insert-marks, strike-marks, insert-sorted, strike-sorted}
+use Rattle.model.proofs.Tree.{weight-pos, weight-marks, nodes, nodes-weight, build-marks, build-balanced, rebalance-marks}
+use Rattle.model.proofs.Tree.{rebalance-balanced, insert-marks, strike-marks, insert-sorted, strike-sorted}
 use Rattle.model.proofs.Depth.{balanced-depth}
 use Rattle.model.proofs.Search.{inside-onSide, clear-none, arrive-cases, Cheap, search-visits}
 use Rattle.model.proofs.Carried.{Carried, CarriedOf, build-carried, insert-carried, strike-carried, rebalance-carried}
@@ -40,7 +44,7 @@ innermost-laws S settled h = record {
   build = λ l d p. refl;
   insert = λ m i l d e p. omega (arith, e p);
   strike = λ m i l d u e. removeFirst-alike (S .same m) i l (rw (e (S .same m)) (d m)) e;
-  count = λ b i l e s. sameBag-length i l e ∙ sym (countIf-all (S .holds b) (all-map (h b) s));
+  count = λ P L b i l e s. sameBag-total P L (P .of) i l e ∙ sym (totalIf-all P L (S .holds b) (all-map (h b) s));
   visits = λ b i l e. omega arith;
   list = λ b i l e s p. e p ∙ sym (filterBy-all (S .holds b) (all-map (h b) s) p);
   listVisits = λ b i l e. omega arith;
@@ -48,7 +52,8 @@ innermost-laws S settled h = record {
 }
 
 -- what the laws' `Represents` says, for those who read it elsewhere: the marks themselves
-module _ {M B : Type 0} (S : Space M B) (settled : B → M → Bool) (h : (b : B) (m : M) → settled b m ≡ true → S .holds b m ≡ true) (i l : List M) where
+module _
+    {M B : Type 0} (S : Space M B) (settled : B → M → Bool) (h : (b : B) (m : M) → settled b m ≡ true → S .holds b m ≡ true) (i l : List M) where
   pub innermost-bag : innermost-laws S settled h .Represents i l → SameBag i l
   unfolding innermost-laws
   innermost-bag r = r
@@ -62,18 +67,39 @@ module _ {M B : Type 0} (S : Space M B) (settled : B → M → Bool) (h : (b : B
 module _ {M B : Type 0} (S : Space M B) (E : SamenessLaws S) (A : Axis M B) (O : AxisLaws S A) (settled : B → M → Bool)
     (h : (b : B) (m : M) → settled b m ≡ true → S .holds b m ≡ true) (b : B) (i : List M) (l r : Tree M (List M))
     (c : Carried S E A O (innermost S) settled (λ n. 0) (innermost-laws S settled h) (node i l r)) where
-  pub innermost-count : innermost S .count b i .found ≡ weight (node i l r)
+  pub innermost-count : innermost S .count b i .found counting ≡ weight (node i l r)
   unfolding innermost-laws
-  innermost-count = sameBag-length i (marks l ++ marks r) (c .0) ∙ sym (weight-marks (node i l r))
+  innermost-count = total-length i ∙ sameBag-length i (marks l ++ marks r) (c .0) ∙ sym (weight-marks (node i l r))
 
   pub innermost-listVisits : innermost S .list b i .visits + 1 ≡ nodes (node i l r)
-  innermost-listVisits = omega (arith, innermost-count, nodes-weight (node i l r), weight-pos l, weight-pos r)
+  innermost-listVisits = omega (arith, total-length i, innermost-count, nodes-weight (node i l r), weight-pos l, weight-pos r)
+
+-- Marks that are the same are struck alike: their grades may differ.
+module _ {M B : Type 0} (S : Space M B) (E : SamenessLaws S) (a b : M) (e : S .same a b ≡ true) where
+  pub innermost-strike-alike : (l : List M) → innermost S .strike a l ≡ innermost S .strike b l
+  innermost-strike-alike l = ap (λ p. removeFirst p l) (E .alike a b e)
+
+  module _ {I : Type 0} (A : Axis M B) (O : AxisLaws S A) (R : Register M B I) (h : (i : I) → R .strike a i ≡ R .strike b i) where
+    strikeLeaf-alike : (t : Tree M I) → strikeLeaf A R a t ≡ strikeLeaf A R b t
+    strikeLeaf-alike (leaf q) = refl
+    strikeLeaf-alike (node i l r) = rw (below-alike E O a b (least r) e, h i, strikeLeaf-alike l, strikeLeaf-alike r)
+
+    strikeFold-alike : (o : Option (Tree M I)) → strikeFold A R a o ≡ strikeFold A R b o
+    strikeFold-alike none = refl
+    strikeFold-alike (some t) = strikeLeaf-alike t
+
+    pub fold-strike-alike : (o : Option (Tree M I)) → fold S A R .strike a o ≡ fold S A R .strike b o
+    fold-strike-alike o = ap (rebalanceFold A R) (strikeFold-alike o)
+
+    pub strikeRebuilt-alike : (o : Option (Tree M I)) → strikeRebuilt A R a o ≡ strikeRebuilt A R b o
+    strikeRebuilt-alike o = ap (rebuiltOf A R) (strikeFold-alike o)
 
 abbrev pub BalancedOf : {M I : Type 0} → Option (Tree M I) → Type 0
 BalancedOf none = Unit {0}
 BalancedOf (some t) = Balanced t
 
-module _ {M B I : Type 0} (S : Space M B) (E : SamenessLaws S) (A : Axis M B) (O : AxisLaws S A) (R : Register M B I) (settled : B → M → Bool) (bound : ℕ → ℕ)
+module _
+    {M B I : Type 0} (S : Space M B) (E : SamenessLaws S) (A : Axis M B) (O : AxisLaws S A) (R : Register M B I) (settled : B → M → Bool) (bound : ℕ → ℕ)
     (L : RegisterLaws S R (settledWith A settled) bound) where
   abbrev Car : Tree M I → Type 0
   Car = Carried S E A O R (settledWith A settled) bound L
@@ -90,19 +116,18 @@ module _ {M B I : Type 0} (S : Space M B) (E : SamenessLaws S) (A : Axis M B) (O
       → All (λ m. settledWith A settled b m ≡ true) (marks t)
   settled-inside b t s e f = all-map (λ q h. rw (h .0, h .1)) (all-both f (inside-onSide S A O b t s e))
 
-  pub search-count : (b : B) (t : Tree M I) → Sorted A (marks t) → Car t → All (λ m. settled b m ≡ true) (marks t)
-      → search S A R b t .found ≡ countIf (S .holds b) (marks t)
-  search-count b (leaf m) s c f = omega arith
-  search-count b (node i l r) s c f =
-      arrive-cases S A O b R (λ v u. u .found ≡ countIf (S .holds b) (marks l ++ marks r)) i l r
-      (λ t. L .count b i (marks l ++ marks r) (c .0) (settled-inside b (node i l r) s t f))
-      (λ u. sym (countIf-none (S .holds b) (clear-none S A O b (node i l r) s u)))
-      (omega (
-        arith,
-        search-count b l (sorted-left (marks l) (marks r) s) (c .1) (all-left (marks l) (marks r) f),
-        search-count b r (sorted-right (marks l) (marks r) s) (c .2) (all-right (marks l) (marks r) f),
-        countIf-append (S .holds b) (marks l) (marks r),
-      ))
+  pub search-count : (P : Operation M) (Q : OperationLaws P) (b : B) (t : Tree M I) → Sorted A (marks t) → Car t
+      → All (λ m. settled b m ≡ true) (marks t)
+      → search S A R b t .found P ≡ totalIf P (S .holds b) (marks t)
+  search-count P Q b (leaf m) s c f = sym (join-zero P Q _)
+  search-count P Q b (node i l r) s c f =
+      arrive-cases S A O b R (λ v u. u .found P ≡ totalIf P (S .holds b) (marks l ++ marks r)) i l r
+      (λ t. L .count P Q b i (marks l ++ marks r) (c .0) (settled-inside b (node i l r) s t f))
+      (λ u. sym (totalIf-none P Q (S .holds b) (clear-none S A O b (node i l r) s u)))
+      (ap₂ (P .join)
+      (search-count P Q b l (sorted-left (marks l) (marks r) s) (c .1) (all-left (marks l) (marks r) f))
+      (search-count P Q b r (sorted-right (marks l) (marks r) s) (c .2) (all-right (marks l) (marks r) f))
+      ∙ sym (total-append P Q (figureIf P (S .holds b)) (marks l) (marks r)))
 
   pub search-list : (b : B) (t : Tree M I) → Sorted A (marks t) → Car t → All (λ m. settled b m ≡ true) (marks t)
       → SameBag (searchList S A R b t .marks) (filterBy (S .holds b) (marks t))
@@ -119,7 +144,8 @@ module _ {M B I : Type 0} (S : Space M B) (E : SamenessLaws S) (A : Axis M B) (O
         filterBy-append (S .holds b) (marks l) (marks r) p,
       ))
 
-  pub search-listVisits : (b : B) (t : Tree M I) → Car t → searchList S A R b t .visits ≤ search S A R b t .visits + 2 * length (searchList S A R b t .marks)
+  pub search-listVisits : (b : B) (t : Tree M I) → Car t
+      → searchList S A R b t .visits ≤ search S A R b t .visits + 2 * length (searchList S A R b t .marks)
   search-listVisits b (leaf m) c = omega arith
   search-listVisits b (node i l r) c =
       arrive-cases S A O b R (λ v u. v .visits ≤ u .visits + 2 * length (v .marks)) i l r
@@ -142,10 +168,12 @@ module _ {M B I : Type 0} (S : Space M B) (E : SamenessLaws S) (A : Axis M B) (O
   )
 
   -- the fold's laws
-  fold-count : (b : B) (o : Option (Tree M I)) (l : List M) → Sound o l → All (λ m. settled b m ≡ true) l → countFold S A R b o .found ≡ countIf (S .holds b) l
-  fold-count b none l s f = s .bag (S .holds b)
-  fold-count b (some t) l s f =
-      search-count b t (s .sorted) (s .carried) (all-alike (settled b) l (marks t) (λ p. sym (s .bag p)) f) ∙ s .bag (S .holds b)
+  fold-count : (P : Operation M) → OperationLaws P → (b : B) (o : Option (Tree M I)) (l : List M) → Sound o l → All (λ m. settled b m ≡ true) l
+      → countFold S A R b o .found P ≡ totalIf P (S .holds b) l
+  fold-count P Q b none l s f = sameBag-total P Q (figureIf P (S .holds b)) [] l (s .bag)
+  fold-count P Q b (some t) l s f =
+      search-count P Q b t (s .sorted) (s .carried) (all-alike (settled b) l (marks t) (λ p. sym (s .bag p)) f)
+      ∙ sameBag-total P Q (figureIf P (S .holds b)) (marks t) l (s .bag)
 
   fold-visits : (b : B) (o : Option (Tree M I)) (l : List M) → Sound o l → countFold S A R b o .visits ≤ foldBound bound (length l)
   fold-visits b none l s = omega arith
@@ -154,7 +182,8 @@ module _ {M B I : Type 0} (S : Space M B) (E : SamenessLaws S) (A : Axis M B) (O
       search-visits S A O b R (bound (length l)) (D (length l)) t
       (rw e at (balanced-depth t (s .balanced))) (s .sorted) (carried-cheap b (length l) t (omega arith) (s .carried))
 
-  fold-list : (b : B) (o : Option (Tree M I)) (l : List M) → Sound o l → All (λ m. settled b m ≡ true) l → SameBag (listFold S A R b o .marks) (filterBy (S .holds b) l)
+  fold-list : (b : B) (o : Option (Tree M I)) (l : List M) → Sound o l → All (λ m. settled b m ≡ true) l
+      → SameBag (listFold S A R b o .marks) (filterBy (S .holds b) l)
   fold-list b none l s f p = filterBy-alike (S .holds b) [] l (s .bag) p
   fold-list b (some t) l s f p =
       search-list b t (s .sorted) (s .carried) (all-alike (settled b) l (marks t) (λ p. sym (s .bag p)) f) p
@@ -180,7 +209,8 @@ module _ {M B I : Type 0} (S : Space M B) (E : SamenessLaws S) (A : Axis M B) (O
       }
 
   -- what an update's tree holds before it is rebalanced, it holds afterwards
-  rebalance-sound : (o : Option (Tree M I)) (l : List M) → SameBag (marksOf o) l → Sorted A (marksOf o) → CarriedOf S E A O R (settledWith A settled) bound L o
+  rebalance-sound : (o : Option (Tree M I)) (l : List M) → SameBag (marksOf o) l → Sorted A (marksOf o)
+      → CarriedOf S E A O R (settledWith A settled) bound L o
       → Sound (rebalanceFold A R o) l
   rebalance-sound none l e s c = record { bag = e; sorted = s; balanced = tt; carried = tt }
   rebalance-sound (some t) l e s c =

@@ -1,6 +1,7 @@
 -- The laws, each for any axis and any inner register that keeps its own, down to the two-fold register and the runs of its calls.
 pub mod Logic
 pub mod Lists
+pub mod Totals
 pub mod Sorted
 pub mod Ascending
 pub mod Merging

@@ -108,7 +108,8 @@ module _ {M : Type 0} where
   pub filterBy-alike : (q : M → Bool) (l k : List M) → SameBag l k → SameBag (filterBy q l) (filterBy q k)
   filterBy-alike q l k s p = countIf-filterBy p q l ∙ s (λ m. q m && p m) ∙ sym (countIf-filterBy p q k)
 
-  pub filterBy-append : (q : M → Bool) (l r : List M) (p : M → Bool) → countIf p (filterBy q (l ++ r)) ≡ countIf p (filterBy q l) + countIf p (filterBy q r)
+  pub filterBy-append : (q : M → Bool) (l r : List M) (p : M → Bool)
+      → countIf p (filterBy q (l ++ r)) ≡ countIf p (filterBy q l) + countIf p (filterBy q r)
   filterBy-append q l r p = rw (countIf-filterBy p q (l ++ r), countIf-filterBy p q l, countIf-filterBy p q r) (countIf-append (λ m. q m && p m) l r)
 
   pub filterBy-all : (q : M → Bool) {l : List M} → All (λ m. q m ≡ true) l → SameBag (filterBy q l) l
@@ -123,15 +124,18 @@ module _ {M : Type 0} where
   filterBy-length q (m ∷ l) = by-cases (q m) (λ t. rw (t, filterBy-length q l) (omega arith)) (λ f. rw (f, filterBy-length q l) (omega arith))
 
   -- the place of a mark in two lists that follow each other
-  pub insertSorted-right : (below : M → M → Bool) (m : M) {l : List M} (r : List M) → All (λ q. below m q ≡ false) l → insertSorted below m (l ++ r) ≡ l ++ insertSorted below m r
+  pub insertSorted-right : (below : M → M → Bool) (m : M) {l : List M} (r : List M) → All (λ q. below m q ≡ false) l
+      → insertSorted below m (l ++ r) ≡ l ++ insertSorted below m r
   insertSorted-right below m r nil = refl
   insertSorted-right below m r (cons e h) = rw (e, insertSorted-right below m r h)
 
-  pub insertSorted-left : (below : M → M → Bool) (m : M) (l : List M) {q : M} (r : List M) → below m q ≡ true → insertSorted below m (l ++ (q ∷ r)) ≡ insertSorted below m l ++ (q ∷ r)
+  pub insertSorted-left : (below : M → M → Bool) (m : M) (l : List M) {q : M} (r : List M) → below m q ≡ true
+      → insertSorted below m (l ++ (q ∷ r)) ≡ insertSorted below m l ++ (q ∷ r)
   insertSorted-left below m [] r e = rw e
   insertSorted-left below m (a ∷ l) r e = by-cases (below m a) (λ t. rw t) (λ f. rw (f, insertSorted-left below m l r e))
 
-  pub insertSorted-countIf : (below : M → M → Bool) (p : M → Bool) (m : M) (l : List M) → countIf p (insertSorted below m l) ≡ indicator (p m) + countIf p l
+  pub insertSorted-countIf : (below : M → M → Bool) (p : M → Bool) (m : M) (l : List M)
+      → countIf p (insertSorted below m l) ≡ indicator (p m) + countIf p l
   insertSorted-countIf below p m [] = refl
   insertSorted-countIf below p m (q ∷ l) = by-cases (below m q) (λ t. rw t) (λ f. rw f (omega (arith, insertSorted-countIf below p m l)))
 

@@ -7,7 +7,8 @@ use native.Mathlib.Omega.{arith}
 use lib.Dec.{eqb, ltb, leb}
 use borrow.Author.Tests.{eqb-true, eq-eqb, ne-eqb, lt-ltb, le-ltb, ltb-false, leb-true, leb-false, le-leb}
 use Rattle.model.specs.Axis.{Space, onSide, lexicographic, equalOn}
-use Rattle.model.specs.Sheet.{Mark, Box, boxCrossed, byXYTag, belowX, belowY, same, fromX1, toX2, fromY1, toY2, holds, sheet, alongX, alongY}
+use Rattle.model.specs.Sheet.{Mark, Box, markOutside, boxCrossed, byXYTag, belowX, belowY, same, fromX1, toX2, fromY1, toY2, holds, sheet}
+use Rattle.model.specs.Sheet.{alongX, alongY}
 use Rattle.model.specs.Laws.{SamenessLaws, AxisLaws, Straight}
 use Rattle.model.proofs.Logic.{by-cases, by-order, clash, and-left, and-right, or-neither}
 
@@ -25,25 +26,29 @@ module _ {M : Type 0} (k : M → ℕ) (ks : List (M → ℕ)) (a b : M) where
   lexicographic-rises : lexicographic (k ∷ ks) a b ≡ true → k a ≤ k b
   lexicographic-rises e = by-order (k a) (k b) (λ h. omega arith) (λ h. omega arith) (λ h. clash e (lexicographic-gt h))
 
-lexicographic-trans : {M : Type 0} (ks : List (M → ℕ)) (a b c : M) → lexicographic ks a b ≡ true → lexicographic ks b c ≡ true → lexicographic ks a c ≡ true
+lexicographic-trans : {M : Type 0} (ks : List (M → ℕ)) (a b c : M) → lexicographic ks a b ≡ true → lexicographic ks b c ≡ true
+    → lexicographic ks a c ≡ true
 lexicographic-trans [] a b c p q = p
 lexicographic-trans (k ∷ ks) a b c p q =
     by-order (k a) (k b)
     (λ h. lexicographic-lt k ks a c (omega (arith, lexicographic-rises k ks b c q)))
     (λ h. by-order (k b) (k c)
     (λ g. lexicographic-lt k ks a c (omega arith))
-    (λ g. lexicographic-eq k ks a c (omega arith) ∙ lexicographic-trans ks a b c (sym (lexicographic-eq k ks a b h) ∙ p) (sym (lexicographic-eq k ks b c g) ∙ q))
+    (λ g. lexicographic-eq k ks a c (omega arith)
+    ∙ lexicographic-trans ks a b c (sym (lexicographic-eq k ks a b h) ∙ p) (sym (lexicographic-eq k ks b c g) ∙ q))
     (λ g. clash q (lexicographic-gt k ks b c g)))
     (λ h. clash p (lexicographic-gt k ks a b h))
 
-lexicographic-linear : {M : Type 0} (ks : List (M → ℕ)) (a b c : M) → lexicographic ks a b ≡ true → lexicographic ks c b ≡ false → lexicographic ks a c ≡ true
+lexicographic-linear : {M : Type 0} (ks : List (M → ℕ)) (a b c : M) → lexicographic ks a b ≡ true → lexicographic ks c b ≡ false
+    → lexicographic ks a c ≡ true
 lexicographic-linear [] a b c p q = p
 lexicographic-linear (k ∷ ks) a b c p q =
     by-order (k c) (k b)
     (λ h. clash (lexicographic-lt k ks c b h) q)
     (λ h. by-order (k a) (k b)
     (λ g. lexicographic-lt k ks a c (omega arith))
-    (λ g. lexicographic-eq k ks a c (omega arith) ∙ lexicographic-linear ks a b c (sym (lexicographic-eq k ks a b g) ∙ p) (sym (lexicographic-eq k ks c b h) ∙ q))
+    (λ g. lexicographic-eq k ks a c (omega arith)
+    ∙ lexicographic-linear ks a b c (sym (lexicographic-eq k ks a b g) ∙ p) (sym (lexicographic-eq k ks c b h) ∙ q))
     (λ g. clash p (lexicographic-gt k ks a b g)))
     (λ h. lexicographic-lt k ks a c (omega (arith, lexicographic-rises k ks a b p)))
 
@@ -102,6 +107,7 @@ module _ {M B : Type 0} (S : Space M B) (k : M → ℕ) (ks : List (M → ℕ)) 
     apart = λ a b e. by-cases (S .same a b) (λ t. clash e (lexicographic-agree (k ∷ ks) a b (to a b t))) (λ f. f);
     close = λ a b p q. fro a b (lexicographic-total (k ∷ ks) a b p q);
     rises = lexicographic-rises k ks;
+    level = λ a b e. by-order (k a) (k b) (λ h. clash (lexicographic-lt k ks a b h) e) (λ h. omega arith) (λ h. omega arith);
     lowRises = lo-rises;
     highFalls = hi-falls;
     held = held;
@@ -119,9 +125,23 @@ pub sheet-sameness : SamenessLaws sheet
 unfolding same
 sheet-sameness = equalOn-laws byXYTag holds
 
-pub same-sound : (a b : Mark) → same a b ≡ true → a ≡ b
-unfolding same
-same-sound a b e = let g = equalOn-agree byXYTag a b e in λ i. record { x = g .0 i; y = g .1 .0 i; tag = g .1 .1 .0 i }
+pub same-outside : (a b : Mark) → same a b ≡ true → markOutside a ≡ markOutside b
+unfolding same markOutside
+same-outside a b e = let g = equalOn-agree byXYTag a b e in rw (g .0, g .1 .0)
+
+-- Marks that are the same may differ in grade; a test of all four tells whether they are one.
+abbrev byAll : List (Mark → ℕ)
+byAll = (λ m. m .x) ∷ (λ m. m .y) ∷ (λ m. m .tag) ∷ (λ m. m .grade) ∷ []
+
+abbrev pub equal : Mark → Mark → Bool
+equal = equalOn byAll
+
+pub equal-self : (a : Mark) → equal a a ≡ true
+equal-self a = agree-equalOn byAll a a (agree-self byAll a)
+
+pub equal-sound : (a b : Mark) → equal a b ≡ true → a ≡ b
+equal-sound a b e =
+    let g = equalOn-agree byAll a b e in λ i. record { x = g .0 i; y = g .1 .0 i; tag = g .1 .1 .0 i; grade = g .1 .1 .1 .0 i }
 
 pub alongX-laws : AxisLaws sheet alongX
 unfolding same belowX holds fromX1 toX2

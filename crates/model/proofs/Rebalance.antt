@@ -10,7 +10,8 @@ use borrow.Author.Tests.{le-leb}
 use Rattle.model.specs.Lists.{if_then_else_}
 use Rattle.model.specs.Axis.{Axis}
 use Rattle.model.specs.Register.{Register}
-use Rattle.model.specs.Tree.{Tree, leaf, node, weight, marks, least, evenly, Balanced, withLeft, withRight, build, insertLeaf, strikeLeaf, rebalance, rebuilt}
+use Rattle.model.specs.Tree.{Tree, leaf, node, weight, marks, least, evenly, Balanced, withLeft, withRight, build, insertLeaf, strikeLeaf}
+use Rattle.model.specs.Tree.{rebalance, rebuilt}
 use Rattle.model.proofs.Logic.{by-cases}
 
 -- `BuiltNearest t u w`: u is t with the unbalanced node nearest the root built afresh, and w is that node's weight. Every node above it is balanced, and
@@ -19,8 +20,10 @@ pub data BuiltNearest {M B I : Type 0} (A : Axis M B) (R : Register M B I) : Tre
   nowhere : {t : Tree M I} → Balanced t → BuiltNearest A R t t 0
   here : {i : I} {l r : Tree M I} → evenly l r ≡ false
       → BuiltNearest A R (node i l r) (build A R (least l) (marks l ++ marks r)) (weight l + weight r)
-  inLeft : {i : I} {l l′ r : Tree M I} {w : ℕ} → evenly l r ≡ true → Balanced r → BuiltNearest A R l l′ w → BuiltNearest A R (node i l r) (node i l′ r) w
-  inRight : {i : I} {l r r′ : Tree M I} {w : ℕ} → evenly l r ≡ true → Balanced l → BuiltNearest A R r r′ w → BuiltNearest A R (node i l r) (node i l r′) w
+  inLeft : {i : I} {l l′ r : Tree M I} {w : ℕ} → evenly l r ≡ true → Balanced r → BuiltNearest A R l l′ w
+      → BuiltNearest A R (node i l r) (node i l′ r) w
+  inRight : {i : I} {l r r′ : Tree M I} {w : ℕ} → evenly l r ≡ true → Balanced l → BuiltNearest A R r r′ w
+      → BuiltNearest A R (node i l r) (node i l r′) w
 
 module _ {M I : Type 0} where
   -- of a balanced tree nothing is built

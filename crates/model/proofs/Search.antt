@@ -7,7 +7,7 @@ use native.Mathlib.Omega.{arith}
 use Rattle.model.specs.Axis.{Space, Axis, onSide, cellClear}
 use Rattle.model.specs.Register.{Register, Found, Listed}
 use Rattle.model.specs.Tree.{Tree, leaf, node, depth, marks, least, greatest}
-use Rattle.model.specs.Search.{inside, clear, arrive, together, arriveListing, joined, search, searchList}
+use Rattle.model.specs.Search.{inside, clear, arrive, together, nothing, arriveListing, joined, search, searchList}
 use Rattle.model.specs.Laws.{AxisLaws, All, nil, cons, Sorted}
 use Rattle.model.proofs.Logic.{by-cases, clash, not-true-false, and-left, and-right, or-true-right}
 use Rattle.model.proofs.Lists.{all-append, all-map, all-both}
@@ -58,7 +58,8 @@ module _ {M B I : Type 0} (S : Space M B) (A : Axis M B) (O : AxisLaws S A) wher
     pub clear-none : (t : Tree M I) → Sorted A (marks t) → clear A b t ≡ true → All (λ q. S .holds b q ≡ false) (marks t)
     clear-none t s e =
         all-map
-        (λ q h. not-true-false (S .holds b q) (λ k. clash e (onSide-not-clear S A O b (A .at (least t)) (A .at (greatest t)) (A .at q) (h .0) (h .1) (O .held b q k))))
+        (λ q h. not-true-false (S .holds b q)
+        (λ k. clash e (onSide-not-clear S A O b (A .at (least t)) (A .at (greatest t)) (A .at q) (h .0) (h .1) (O .held b q k))))
         (cell-spans t s)
 
     clear-before : (t : Tree M I) → A .fromLow b (A .at (greatest t)) ≡ false → clear A b t ≡ true
@@ -69,9 +70,9 @@ module _ {M B I : Type 0} (S : Space M B) (A : Axis M B) (O : AxisLaws S A) wher
 
     module _ (R : Register M B I) where
       -- one arrival at a node, by the three ways on: of a listing beside the count
-      pub arrive-cases : (P : Listed M → Found → Type 0) (i : I) (l r : Tree M I)
+      pub arrive-cases : (P : Listed M → Found M → Type 0) (i : I) (l r : Tree M I)
           → (inside A b (node i l r) ≡ true → P (arriveListing (R .list b i)) (arrive (R .count b i)))
-          → (clear A b (node i l r) ≡ true → P (record { marks = []; visits = 1 }) (record { found = 0; visits = 1 }))
+          → (clear A b (node i l r) ≡ true → P (record { marks = []; visits = 1 }) nothing)
           → P (arriveListing (joined (searchList S A R b l) (searchList S A R b r))) (arrive (together (search S A R b l) (search S A R b r)))
           → P (searchList S A R b (node i l r)) (search S A R b (node i l r))
       arrive-cases P i l r f g h =
@@ -117,7 +118,8 @@ module _ {M B I : Type 0} (S : Space M B) (A : Axis M B) (O : AxisLaws S A) wher
             ))
             (λ f. omega (
               arith,
-              visits-clear l sl (clear-before l (not-true-false (A .fromLow b (A .at (greatest l))) (λ k. clash (O .lowRises b (A .at (greatest l)) (A .at (least r)) seam k) f))),
+              visits-clear l sl (clear-before l
+                  (not-true-false (A .fromLow b (A .at (greatest l))) (λ k. clash (O .lowRises b (A .at (greatest l)) (A .at (least r)) seam k) f))),
               visits-low n r (omega arith) sr (c .2) q,
             )))
 
@@ -140,11 +142,13 @@ module _ {M B I : Type 0} (S : Space M B) (A : Axis M B) (O : AxisLaws S A) wher
             (λ f. omega (
               arith,
               visits-high n l (omega arith) sl (c .1) q,
-              visits-clear r sr (clear-after r (not-true-false (A .toHigh b (A .at (least r))) (λ k. clash (O .highFalls b (A .at (greatest l)) (A .at (least r)) seam k) f))),
+              visits-clear r sr (clear-after r
+                  (not-true-false (A .toHigh b (A .at (least r))) (λ k. clash (O .highFalls b (A .at (greatest l)) (A .at (least r)) seam k) f))),
             )))
 
         -- until the side's two ends part, one child is clear
-        pub search-visits : (n : ℕ) (t : Tree M I) → depth t ≤ n → Sorted A (marks t) → Cheap t → search S A R b t .visits ≤ (4 * n + 1) + 2 * n * N
+        pub search-visits : (n : ℕ) (t : Tree M I) → depth t ≤ n → Sorted A (marks t) → Cheap t
+            → search S A R b t .visits ≤ (4 * n + 1) + 2 * n * N
         search-visits n (leaf m) d s c = omega arith
         search-visits zero (node i l r) d s c = absurd (omega arith)
         search-visits (suc n) (node i l r) d s c =

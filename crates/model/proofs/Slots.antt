@@ -1,25 +1,30 @@
 -- A register over slots does what the register over their marks does: trees over slot numbers stand for trees over marks. Assumes nothing.
 use Prim.Native.Nat.{ℕ, zero, suc, _+_, _/_}
-use mathlib.Core.Path.{_≡_, refl, sym, ap, ap₂, _∙_}
+use mathlib.Core.Path.{_≡_, refl, sym, ap, ap₂, _∙_, fun-ext}
 use mathlib.Core.Bool.{Bool}
 use mathlib.Core.List.{List, [], _∷_, _++_, map}
 use mathlib.Core.Option.{Option, none, some, Option·map}
 use lib.ListN.{length, take, drop, length-map}
 use Rattle.model.specs.Lists.{filterBy, removeFirst, insertSorted, sort}
+use Rattle.model.specs.Totals.{Operation, total}
 use Rattle.model.specs.Axis.{Space, Axis}
 use Rattle.model.specs.Register.{Register, Listed, innermost}
-use Rattle.model.specs.Tree.{Tree, leaf, node, weight, marks, least, greatest, evenly, withLeft, withRight, buildFrom, build, insertLeaf, strikeLeaf, rebalance, rebuilt}
-use Rattle.model.specs.Search.{inside, clear, arriveListing, joined, search, searchList}
+use Rattle.model.specs.Tree.{Tree, leaf, node, weight, marks, least, greatest, evenly, withLeft, withRight, buildFrom, build, insertLeaf}
+use Rattle.model.specs.Tree.{strikeLeaf, rebalance, rebuilt}
+use Rattle.model.specs.Search.{inside, clear, arrive, together, arriveListing, joined, search, searchList}
 use Rattle.model.specs.Fold.{rebalanceFold, rebuiltOf, insertRebuilt, strikeRebuilt, fold}
 use Rattle.model.specs.Sheet.{Mark, sheet, alongX, alongY, auxiliary, main}
-use Rattle.model.specs.Slots.{slotSpace, slotAxis, mapTree, mapListed, StandsFor}
-use Rattle.model.specs.Laws.{SamenessLaws, AxisLaws}
+use Rattle.model.specs.Slots.{slotSpace, slotAxis, mapTree, slotOperation, mapFound, mapListed, StandsFor}
+use Rattle.model.specs.Laws.{OperationLaws, SamenessLaws, AxisLaws}
 use Rattle.model.proofs.Logic.{by-cases}
 
--- the laws of sameness and of an axis hold over slots
+-- the laws of sameness, of an operation and of an axis hold over slots
 module _ {N M B : Type 0} (f : N → M) (S : Space M B) where
   pub slotSpace-sameness : SamenessLaws S → SamenessLaws (slotSpace f S)
   slotSpace-sameness E = record { self = λ a. E .self (f a); alike = λ a b e. ap (λ h c. h (f c)) (E .alike (f a) (f b) e) }
+
+  pub slotOperation-laws : (P : Operation M) → OperationLaws P → OperationLaws (slotOperation f P)
+  slotOperation-laws P L = record { assoc = L .assoc; comm = L .comm; neutral = L .neutral }
 
   pub slotAxis-laws : (A : Axis M B) → AxisLaws S A → AxisLaws (slotSpace f S) (slotAxis f A)
   slotAxis-laws A O = record {
@@ -28,6 +33,7 @@ module _ {N M B : Type 0} (f : N → M) (S : Space M B) where
     apart = λ a b. O .apart (f a) (f b);
     close = λ a b. O .close (f a) (f b);
     rises = λ a b. O .rises (f a) (f b);
+    level = λ a b. O .level (f a) (f b);
     lowRises = O .lowRises;
     highFalls = O .highFalls;
     held = λ b m. O .held b (f m);
@@ -57,13 +63,18 @@ module _ {N M : Type 0} (f : N → M) where
   map-filterBy p [] = refl
   map-filterBy p (q ∷ l) = by-cases (p (f q)) (λ t. rw (t, map-filterBy p l)) (λ u. rw (u, map-filterBy p l))
 
-  map-insertSorted : (below : M → M → Bool) (m : N) (l : List N) → map f (insertSorted (λ a b. below (f a) (f b)) m l) ≡ insertSorted below (f m) (map f l)
+  map-insertSorted : (below : M → M → Bool) (m : N) (l : List N)
+      → map f (insertSorted (λ a b. below (f a) (f b)) m l) ≡ insertSorted below (f m) (map f l)
   map-insertSorted below m [] = refl
   map-insertSorted below m (q ∷ l) = by-cases (below (f m) (f q)) (λ t. rw t) (λ u. rw (u, map-insertSorted below m l))
 
   pub map-sort : (below : M → M → Bool) (l : List N) → map f (sort (λ a b. below (f a) (f b)) l) ≡ sort below (map f l)
   map-sort below [] = refl
   map-sort below (m ∷ l) = map-insertSorted below m (sort (λ a b. below (f a) (f b)) l) ∙ ap (insertSorted below (f m)) (map-sort below l)
+
+  pub map-total : (join : ℕ → ℕ → ℕ) (v : M → ℕ) (l : List N) → total join (λ s. v (f s)) l ≡ total join v (map f l)
+  map-total join v [] = refl
+  map-total join v (m ∷ l) = ap (join (v (f m))) (map-total join v l)
 
   map-joined : (a b : Listed N) → mapListed f (joined a b) ≡ joined (mapListed f a) (mapListed f b)
   map-joined a b = ap (λ l. record { marks = l; visits = a .visits + b .visits }) (map-append (a .marks) (b .marks))
@@ -93,11 +104,13 @@ module _ {N M : Type 0} (f : N → M) where
     map-rebuilt (leaf m) = refl
     map-rebuilt (node i l r) = rw (map-evenly l r, map-weight l, map-weight r, map-rebuilt l, map-rebuilt r)
 
-    map-withLeft : (i : I) (o : Option (Tree N I)) (r : Tree N I) → mapTree f g (withLeft i o r) ≡ withLeft (g i) (Option·map (mapTree f g) o) (mapTree f g r)
+    map-withLeft : (i : I) (o : Option (Tree N I)) (r : Tree N I)
+        → mapTree f g (withLeft i o r) ≡ withLeft (g i) (Option·map (mapTree f g) o) (mapTree f g r)
     map-withLeft i none r = refl
     map-withLeft i (some l) r = refl
 
-    map-withRight : (i : I) (l : Tree N I) (o : Option (Tree N I)) → mapTree f g (withRight i l o) ≡ withRight (g i) (mapTree f g l) (Option·map (mapTree f g) o)
+    map-withRight : (i : I) (l : Tree N I) (o : Option (Tree N I))
+        → mapTree f g (withRight i l o) ≡ withRight (g i) (mapTree f g l) (Option·map (mapTree f g) o)
     map-withRight i l none = refl
     map-withRight i l (some r) = refl
 
@@ -140,9 +153,15 @@ module _ {N M : Type 0} (f : N → M) where
           (λ t. rw (map-evenly l r, t, map-rebalance l, map-rebalance r))
           (λ u. rw (map-evenly l r, u, map-least l, map-marks l, map-marks r, ← map-append (marks l) (marks r)) (map-build (least l) (marks l ++ marks r)))
 
-      pub map-search : (b : B) (t : Tree N I) → search (slotSpace f S) (slotAxis f A) R b t ≡ search S A Q b (mapTree f g t)
+      pub map-search : (b : B) (t : Tree N I) → mapFound f (search (slotSpace f S) (slotAxis f A) R b t) ≡ search S A Q b (mapTree f g t)
       map-search b (leaf m) = refl
-      map-search b (node i l r) = rw (map-least l, map-greatest r, T .count b i, map-search b l, map-search b r)
+      map-search b (node i l r) =
+          rw (map-least l, map-greatest r)
+          (by-cases (inside (slotAxis f A) b (node i l r))
+          (λ t. rw t (ap arrive (T .count b i)))
+          (λ t. by-cases (clear (slotAxis f A) b (node i l r))
+          (λ u. rw (t, u))
+          (λ u. rw (t, u) (ap arrive (ap₂ together (map-search b l) (map-search b r))))))
 
       pub map-searchList : (b : B) (t : Tree N I) → mapListed f (searchList (slotSpace f S) (slotAxis f A) R b t) ≡ searchList S A Q b (mapTree f g t)
       map-searchList b (leaf m) = ap (λ l. record { marks = l; visits = 1 }) (map-filterBy (S .holds b) (m ∷ []))
@@ -163,7 +182,8 @@ module _ {N M : Type 0} (f : N → M) where
           ap some
           (map-build m (sort (slotAxis f A .below) (m ∷ l)) ∙ ap (build A Q (f m)) (map-sort (A .below) (m ∷ l)))
 
-      map-rebalanceFold : (o : Option (Tree N I)) → Option·map (mapTree f g) (rebalanceFold (slotAxis f A) R o) ≡ rebalanceFold A Q (Option·map (mapTree f g) o)
+      map-rebalanceFold : (o : Option (Tree N I))
+          → Option·map (mapTree f g) (rebalanceFold (slotAxis f A) R o) ≡ rebalanceFold A Q (Option·map (mapTree f g) o)
       map-rebalanceFold none = refl
       map-rebalanceFold (some t) = rw (map-rebalance t)
 
@@ -177,7 +197,8 @@ module _ {N M : Type 0} (f : N → M) where
       fold-strike m none = refl
       fold-strike m (some t) = map-rebalanceFold (strikeLeaf (slotAxis f A) R m t) ∙ ap (rebalanceFold A Q) (map-strikeLeaf m t)
 
-      fold-count : (b : B) (o : Option (Tree N I)) → fold (slotSpace f S) (slotAxis f A) R .count b o ≡ fold S A Q .count b (Option·map (mapTree f g) o)
+      fold-count : (b : B) (o : Option (Tree N I))
+          → mapFound f (fold (slotSpace f S) (slotAxis f A) R .count b o) ≡ fold S A Q .count b (Option·map (mapTree f g) o)
       fold-count b none = refl
       fold-count b (some t) = map-search b t
 
@@ -190,7 +211,8 @@ module _ {N M : Type 0} (f : N → M) where
       fold-stands = record { build = fold-build; insert = fold-insert; strike = fold-strike; count = fold-count; list = fold-list }
 
       -- the figures 'rebuilt' are the same
-      pub insertRebuilt-stands : (m : N) (o : Option (Tree N I)) → insertRebuilt (slotAxis f A) R m o ≡ insertRebuilt A Q (f m) (Option·map (mapTree f g) o)
+      pub insertRebuilt-stands : (m : N) (o : Option (Tree N I))
+          → insertRebuilt (slotAxis f A) R m o ≡ insertRebuilt A Q (f m) (Option·map (mapTree f g) o)
       insertRebuilt-stands m none = refl
       insertRebuilt-stands m (some t) = sym (map-rebuilt (insertLeaf (slotAxis f A) R m t)) ∙ ap rebuilt (map-insertLeaf m t)
 
@@ -198,7 +220,8 @@ module _ {N M : Type 0} (f : N → M) where
       rebuiltOf-stands none = refl
       rebuiltOf-stands (some t) = sym (map-rebuilt t)
 
-      pub strikeRebuilt-stands : (m : N) (o : Option (Tree N I)) → strikeRebuilt (slotAxis f A) R m o ≡ strikeRebuilt A Q (f m) (Option·map (mapTree f g) o)
+      pub strikeRebuilt-stands : (m : N) (o : Option (Tree N I))
+          → strikeRebuilt (slotAxis f A) R m o ≡ strikeRebuilt A Q (f m) (Option·map (mapTree f g) o)
       strikeRebuilt-stands m none = refl
       strikeRebuilt-stands m (some t) = rebuiltOf-stands (strikeLeaf (slotAxis f A) R m t) ∙ ap (rebuiltOf A Q) (map-strikeLeaf m t)
 
@@ -207,7 +230,7 @@ module _ {N M : Type 0} (f : N → M) where
     build = λ l. refl;
     insert = λ m l. refl;
     strike = λ m l. map-removeFirst (S .same (f m)) l;
-    count = λ b l. rw (length-map l f);
+    count = λ b l. ap (λ h. record { found = h; visits = 0 }) (fun-ext (λ P. map-total (P .join) (P .of) l));
     list = λ b l. rw (length-map l f);
   }
 

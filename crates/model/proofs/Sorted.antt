@@ -9,7 +9,8 @@ use Rattle.model.specs.Lists.{countIf, filterBy, removeFirst, insertSort
 use Rattle.model.specs.Axis.{Space, Axis}
 use Rattle.model.specs.Laws.{SameBag, SamenessLaws, Distinct, AxisLaws, All, nil, cons, Sorted, sorted[], sorted∷}
 use Rattle.model.proofs.Logic.{by-cases, clash}
-use Rattle.model.proofs.Lists.{all-left, all-right, all-map, all-filterBy, all-removeFirst, all-insertSorted, countIf-append, countIf-none, none-pass, sameBag-length, insertSorted-head, sort-countIf, all-append}
+use Rattle.model.proofs.Lists.{all-left, all-right, all-map, all-filterBy, all-removeFirst, all-insertSorted, countIf-append, countIf-none}
+use Rattle.model.proofs.Lists.{none-pass, sameBag-length, insertSorted-head, sort-countIf, all-append}
 
 -- ordered lists
 module _ {M B : Type 0} {A : Axis M B} where
@@ -77,6 +78,13 @@ module _ {M B : Type 0} {S : Space M B} {A : Axis M B} (E : SamenessLaws S) (O :
 
   pub below-apart : (a b : M) → A .below a b ≡ true → S .same b a ≡ false
   below-apart a b e = by-cases (S .same b a) (λ t. clash (same-sym E b a t) (O .apart a b e)) (λ f. f)
+
+  -- marks that are the same stand alike in the order
+  pub below-alike : (a b c : M) → S .same a b ≡ true → A .below a c ≡ A .below b c
+  below-alike a b c e =
+      by-cases (A .below a c)
+      (λ t. by-cases (A .below b c) (λ u. rw (t, u)) (λ u. clash e (O .apart a b (O .linear a c b t u))))
+      (λ t. by-cases (A .below b c) (λ u. clash (same-sym E a b e) (O .apart b a (O .linear b c a u t))) (λ u. rw (t, u)))
 
   pub insertSorted-sorted : (m : M) {l : List M} → All (λ q. S .same m q ≡ false) l → Sorted A l → Sorted A (insertSorted (A .below) m l)
   insertSorted-sorted m nil s = sorted∷ nil sorted[]

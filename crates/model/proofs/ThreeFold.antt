@@ -68,7 +68,8 @@ alongZ-laws =
     (agree-equalOn byZXYTag)
     (λ b. leb-rises (b .z1))
     (λ b. leb-falls (b .z2))
-    (λ b m e. and-left (onSide alongZ b (m .z)) (onSide alongX b (m .x)) (and-left (onSide alongZ b (m .z) && onSide alongX b (m .x)) (onSide alongY b (m .y)) e))
+    (λ b m e. and-left (onSide alongZ b (m .z)) (onSide alongX b (m .x))
+    (and-left (onSide alongZ b (m .z) && onSide alongX b (m .x)) (onSide alongY b (m .y)) e))
 
 alongX-laws : AxisLaws laminate alongX
 alongX-laws =
@@ -77,7 +78,8 @@ alongX-laws =
     (λ a b g. agree-equalOn byZXYTag a b (g .1 .1 .1 .0, (g .0, (g .1 .0, (g .1 .1 .0, tt)))))
     (λ b. leb-rises (b .x1))
     (λ b. leb-falls (b .x2))
-    (λ b m e. and-right (onSide alongZ b (m .z)) (onSide alongX b (m .x)) (and-left (onSide alongZ b (m .z) && onSide alongX b (m .x)) (onSide alongY b (m .y)) e))
+    (λ b m e. and-right (onSide alongZ b (m .z)) (onSide alongX b (m .x))
+    (and-left (onSide alongZ b (m .z) && onSide alongX b (m .x)) (onSide alongY b (m .y)) e))
 
 alongY-laws : AxisLaws laminate alongY
 alongY-laws =

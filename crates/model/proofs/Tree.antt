@@ -12,11 +12,14 @@ use borrow.Author.Tests.{leb-true}
 use Rattle.model.specs.Lists.{countIf, removeFirst, insertSorted}
 use Rattle.model.specs.Axis.{Space, Axis}
 use Rattle.model.specs.Register.{Register}
-use Rattle.model.specs.Tree.{Tree, leaf, node, weight, marks, marksOf, least, greatest, evenly, Balanced, withLeft, withRight, buildFrom, build, insertLeaf, strikeLeaf, rebalance}
+use Rattle.model.specs.Tree.{Tree, leaf, node, weight, marks, marksOf, least, greatest, evenly, Balanced, withLeft, withRight, buildFrom}
+use Rattle.model.specs.Tree.{build, insertLeaf, strikeLeaf, rebalance}
 use Rattle.model.specs.Laws.{SamenessLaws, AxisLaws, All, cons, Sorted, sorted∷, nil}
 use Rattle.model.proofs.Logic.{by-cases, and-left, and-right}
-use Rattle.model.proofs.Lists.{all-left, all-right, all-map, countIf-append, countIf-none, none-pass, insertSorted-left, insertSorted-right, removeFirst-left, removeFirst-right, all-append}
-use Rattle.model.proofs.Sorted.{sorted-left, sorted-right, sorted-across, below-asym, below-apart, insertSorted-sorted, removeFirst-sorted, sorted-append, below-self}
+use Rattle.model.proofs.Lists.{all-left, all-right, all-map, countIf-append, countIf-none, none-pass, insertSorted-left, insertSorted-right}
+use Rattle.model.proofs.Lists.{removeFirst-left, removeFirst-right, all-append}
+use Rattle.model.proofs.Sorted.{sorted-left, sorted-right, sorted-across, below-asym, below-apart, insertSorted-sorted, removeFirst-sorted}
+use Rattle.model.proofs.Sorted.{sorted-append, below-self}
 
 module _ {M I : Type 0} where
   pub weight-pos : (t : Tree M I) → 0 < weight t
@@ -144,7 +147,8 @@ module _ {M B I : Type 0} (A : Axis M B) (R : Register M B I) where
       (λ f. rw f (build-balanced (least l) (marks l ++ marks r) (marks-pos (node i l r))))
 
 -- a mark goes to its place
-run-all-above : {M B : Type 0} (S : Space M B) (A : Axis M B) (O : AxisLaws S A) (m a : M) (k : List M) → A .below m a ≡ true → Sorted A (a ∷ k) → All (λ q. A .below m q ≡ true) (a ∷ k)
+run-all-above : {M B : Type 0} (S : Space M B) (A : Axis M B) (O : AxisLaws S A) (m a : M) (k : List M) → A .below m a ≡ true
+    → Sorted A (a ∷ k) → All (λ q. A .below m q ≡ true) (a ∷ k)
 run-all-above S A O m a k e (sorted∷ h s) = cons e (all-map (λ q g. O .trans m a q e g) h)
 
 module _ {M B I : Type 0} (S : Space M B) (E : SamenessLaws S) (A : Axis M B) (O : AxisLaws S A) where
@@ -153,7 +157,8 @@ module _ {M B I : Type 0} (S : Space M B) (E : SamenessLaws S) (A : Axis M B) (O
   all-above m t e s = rw (marks-least t .1) (run-all-above S A O m (least t) (marks-least t .0) e (rw (marks-least t .1) at s))
 
   -- all beneath the left child are below a mark that is not below the right child's least
-  pub left-all-below : (m : M) (l r : Tree M I) → A .below m (least r) ≡ false → Sorted A (marks l ++ marks r) → All (λ q. A .below q m ≡ true) (marks l)
+  pub left-all-below : (m : M) (l r : Tree M I) → A .below m (least r) ≡ false → Sorted A (marks l ++ marks r)
+      → All (λ q. A .below q m ≡ true) (marks l)
   left-all-below m l r f s = all-map (λ q h. O .linear q (least r) m (all-least r h) f) (sorted-across (marks l) (marks r) s)
 
   -- all beneath a node whose greatest is below m are below m; so a tree is ordered over two whose ends follow each other
@@ -164,7 +169,8 @@ module _ {M B I : Type 0} (S : Space M B) (E : SamenessLaws S) (A : Axis M B) (O
       let left = all-map (λ q h. O .trans q (least r) m (all-least r h) (all-least r right)) (sorted-across (marks l) (marks r) s) in
       all-append left right
 
-  pub sorted-over : (l r : Tree M I) → Sorted A (marks l) → Sorted A (marks r) → A .below (greatest l) (least r) ≡ true → Sorted A (marks l ++ marks r)
+  pub sorted-over : (l r : Tree M I) → Sorted A (marks l) → Sorted A (marks r) → A .below (greatest l) (least r) ≡ true
+      → Sorted A (marks l ++ marks r)
   sorted-over l r s t e = sorted-append s t (all-map (λ q h. all-above q r h t) (all-below (least r) l e s))
 
   -- none beneath a node is below its least, nor above its greatest
@@ -193,7 +199,8 @@ module _ {M B I : Type 0} (S : Space M B) (E : SamenessLaws S) (A : Axis M B) (O
         (ap (λ z. marks l ++ z) (insert-marks m r (sorted-right (marks l) (marks r) s))
         ∙ sym (insertSorted-right (A .below) m (marks r) (all-map (λ q h. below-asym E O q m h) (left-all-below m l r f s)))))
 
-    pub strike-marks : (m : M) (t : Tree M I) → Sorted A (marks t) → 0 < countIf (S .same m) (marks t) → marksOf (strikeLeaf A R m t) ≡ removeFirst (S .same m) (marks t)
+    pub strike-marks : (m : M) (t : Tree M I) → Sorted A (marks t) → 0 < countIf (S .same m) (marks t)
+        → marksOf (strikeLeaf A R m t) ≡ removeFirst (S .same m) (marks t)
     strike-marks m (leaf q) s h =
         by-cases (S .same m q) (λ t. rw t) (λ f. absurd (let z = (rw f at h) in omega arith))
     strike-marks m (node i l r) s h =

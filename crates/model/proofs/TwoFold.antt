@@ -8,17 +8,27 @@ use mathlib.Core.Option.{none, some}
 use native.Mathlib.Omega.{arith}
 use lib.ListN.{length}
 use Rattle.model.specs.Lists.{countIf, filterBy, removeFirst, insertSorted, sort}
+use Rattle.model.specs.Totals.{Operation, totalIf, counting}
 use Rattle.model.specs.Register.{innermost}
 use Rattle.model.specs.Tree.{marks, marksOf, insertLeaf, strikeLeaf}
-use Rattle.model.specs.Fold.{rebalanceFold}
+use Rattle.model.specs.Fold.{rebalanceFold, strikeRebuilt}
 use Rattle.model.specs.Sizes.{D}
-use Rattle.model.specs.Sheet.{Mark, Box, belowX, same, holds, sheet, alongX, alongY, Auxiliary, auxiliary, Main, main}
-use Rattle.model.specs.Laws.{SameBag, All, nil, cons, Sorted, sorted[], RegisterLaws}
+use Rattle.model.specs.Sheet.{Mark, Box, summing, worst, belowX, same, holds, sheet, alongX, alongY, Auxiliary, auxiliary, Main, main}
+use Rattle.model.specs.Laws.{SameBag, OperationLaws, All, nil, cons, Sorted, sorted[], RegisterLaws}
 use Rattle.model.proofs.Lists.{sameBag-length, none-pass, insertSorted-countIf, sort-countIf, filterBy-length}
+use Rattle.model.proofs.Totals.{counting-laws, total-count}
 use Rattle.model.proofs.Sorted.{distinct-cons, sorted-distinct, insertSorted-sorted, removeFirst-sorted, sort-sorted, sorted-unique, filterBy-sorted}
-use Rattle.model.proofs.Orders.{sheet-sameness, same-sound, alongX-laws, alongY-laws}
+use Rattle.model.proofs.Orders.{sheet-sameness, equal, equal-self, equal-sound, alongX-laws, alongY-laws}
 use Rattle.model.proofs.Tree.{rebalance-marks, insert-marks, strike-marks}
-use Rattle.model.proofs.Fold.{settledWith, foldBound, innermost-laws, fold-laws, fold-sound, fold-represents, Sound}
+use Rattle.model.proofs.Fold.{settledWith, foldBound, innermost-laws, innermost-strike-alike, fold-strike-alike, strikeRebuilt-alike}
+use Rattle.model.proofs.Fold.{fold-laws, fold-sound, fold-represents, Sound}
+
+-- sum and worst are operations with laws
+pub summing-laws : OperationLaws summing
+summing-laws = record { assoc = λ a b c. omega arith; comm = λ a b. omega arith; neutral = λ a. omega arith }
+
+pub worst-laws : OperationLaws worst
+worst-laws = record { assoc = λ a b c. omega arith; comm = λ a b. omega arith; neutral = λ a. omega arith }
 
 -- the main tree's search begins with no side settled
 abbrev pub unsettled : Box → Mark → Bool
@@ -35,6 +45,17 @@ auxiliary-laws =
 
 pub main-laws : RegisterLaws sheet main unsettled (foldBound (foldBound (λ n. 0)))
 main-laws = fold-laws sheet sheet-sameness alongX alongX-laws auxiliary unsettled (foldBound (λ n. 0)) auxiliary-laws
+
+-- a strike goes by sameness: what it leaves and its figure are those of any mark that is the same
+module _ (a b : Mark) (e : same a b ≡ true) where
+  auxiliary-strike-alike : (o : Auxiliary) → auxiliary .strike a o ≡ auxiliary .strike b o
+  auxiliary-strike-alike = fold-strike-alike sheet sheet-sameness a b e alongY alongY-laws (innermost sheet) (innermost-strike-alike sheet sheet-sameness a b e)
+
+  pub main-strike-alike : (o : Main) → main .strike a o ≡ main .strike b o
+  main-strike-alike = fold-strike-alike sheet sheet-sameness a b e alongX alongX-laws auxiliary auxiliary-strike-alike
+
+  pub main-strikeRebuilt-alike : (o : Main) → strikeRebuilt alongX auxiliary a o ≡ strikeRebuilt alongX auxiliary b o
+  main-strikeRebuilt-alike = strikeRebuilt-alike sheet sheet-sameness a b e alongX alongX-laws auxiliary auxiliary-strike-alike
 
 -- what the laws' `Represents` says of each tree: in order, balanced, and what its nodes carry
 abbrev pub AuxiliarySound : Auxiliary → List Mark → Type 0
@@ -113,8 +134,18 @@ all-unsettled b [] = nil
 all-unsettled b (m ∷ l) = cons refl (all-unsettled b l)
 
 module _ (b : Box) (o : Main) (l : List Mark) (a : Agrees o l) where
-  pub count-agrees : main .count b o .found ≡ countIf (holds b) l
-  count-agrees = main-laws .count b o l (main-represents o l (a .sound)) (all-unsettled b l)
+  -- one law for any operation: the sum and the worst of the grades, and the number
+  pub total-agrees : (P : Operation Mark) → OperationLaws P → main .count b o .found P ≡ totalIf P (holds b) l
+  total-agrees P L = main-laws .count P L b o l (main-represents o l (a .sound)) (all-unsettled b l)
+
+  pub count-agrees : main .count b o .found counting ≡ countIf (holds b) l
+  count-agrees = total-agrees counting counting-laws ∙ total-count (holds b) l
+
+  pub sum-agrees : main .count b o .found summing ≡ totalIf summing (holds b) l
+  sum-agrees = total-agrees summing summing-laws
+
+  pub worst-agrees : main .count b o .found worst ≡ totalIf worst (holds b) l
+  worst-agrees = total-agrees worst worst-laws
 
   pub count-visits : main .count b o .visits ≤ (4 * D (length l) + 1) * (2 * D (length l) + 1)
   count-visits = omega (arith, main-laws .visits b o l (main-represents o l (a .sound)))
@@ -126,7 +157,7 @@ module _ (b : Box) (o : Main) (l : List Mark) (a : Agrees o l) where
   list-agrees =
       let met = main .list b o .marks in
       let s = filterBy-sorted (holds b) (a .sorted) in
-      sorted-unique sheet-sameness alongX-laws same (sheet-sameness .self) same-sound
+      sorted-unique sheet-sameness alongX-laws equal equal-self equal-sound
       (sort-sorted sheet-sameness alongX-laws met (λ q. omega (arith, list-bag (same q), sorted-distinct sheet-sameness alongX-laws s q)))
       s
       (λ p. sort-countIf belowX p met ∙ list-bag p)

@@ -7,12 +7,14 @@ use mathlib.Core.Option.{none}
 use lib.Dec.{ltb, eqb}
 use lib.ListN.{length}
 use Rattle.model.specs.Lists.{if_then_else_, countIf, filterBy, removeFirst, insertSorted}
+use Rattle.model.specs.Totals.{totalIf}
 use Rattle.model.specs.Fold.{insertRebuilt, strikeRebuilt}
 use Rattle.model.specs.Sizes.{passes}
-use Rattle.model.specs.Sheet.{Mark, Box, belowX, same, holds, alongX, auxiliary, Main, main}
-use Rattle.model.specs.Refusals.{Outcome, accepted, refused, openTable, enterMark, enterBox}
+use Rattle.model.specs.Sheet.{Mark, Box, belowX, same, holds, summing, worst, alongX, auxiliary, Main, main}
+use Rattle.model.specs.Refusals.{Outcome, accepted, refused, openTable, enterMark, nameMark, enterBox}
 
--- the six calls: a call's arguments, and the lengths lent that its answer goes by
+-- the six calls: a call's arguments, and the lengths lent that its answer goes by. A strike is given no grade: whichever its mark has, it does the same
+-- (proofs/History, strike-answers, strike-leaves).
 pub data Call : Type 0 where
   openFor : (capacity words : ℕ) → Call
   insert : Mark → Call
@@ -34,21 +36,23 @@ pub record Answer : Type 0 where
   pub rebuilt : ℕ
   pub k : ℕ
   pub visits : ℕ
+  pub sum : ℕ
+  pub worst : ℕ
   pub listed : List Mark
   pub which : ℕ
 
 -- "A refused step changes nothing and gives 0 beside its number, save k with 10."
 abbrev pub refusal : ℕ → ℕ → Answer
-refusal n found = record { number = n; live = 0; rebuilt = 0; k = found; visits = 0; listed = []; which = 0 }
+refusal n found = record { number = n; live = 0; rebuilt = 0; k = found; visits = 0; sum = 0; worst = 0; listed = []; which = 0 }
 
 abbrev pub updated : ℕ → ℕ → Answer
-updated n w = record { number = 0; live = n; rebuilt = w; k = 0; visits = 0; listed = []; which = 0 }
+updated n w = record { number = 0; live = n; rebuilt = w; k = 0; visits = 0; sum = 0; worst = 0; listed = []; which = 0 }
 
-abbrev pub counted : ℕ → ℕ → Answer
-counted n v = record { number = 0; live = 0; rebuilt = 0; k = n; visits = v; listed = []; which = 0 }
+abbrev pub counted : ℕ → ℕ → ℕ → ℕ → Answer
+counted n v s w = record { number = 0; live = 0; rebuilt = 0; k = n; visits = v; sum = s; worst = w; listed = []; which = 0 }
 
 abbrev pub listedIn : ℕ → List Mark → ℕ → Answer
-listedIn w l v = record { number = 0; live = 0; rebuilt = 0; k = length l; visits = v; listed = l; which = w }
+listedIn w l v = record { number = 0; live = 0; rebuilt = 0; k = length l; visits = v; sum = 0; worst = 0; listed = l; which = w }
 
 -- the answer to what was asked for, or the refusal
 abbrev pub orRefused : {A : Type 0} → Outcome A → (A → Answer) → Answer
@@ -70,15 +74,17 @@ answer (insert m) s =
     else (if eqb (length (s .plain)) (s .capacity) then refusal 7 0
     else updated (length (insertSorted belowX m (s .plain))) (insertRebuilt alongX auxiliary m (s .tree))))
 answer (strike m) s =
-    orRefused (enterMark m) (λ m.
+    orRefused (nameMark m) (λ m.
     if has m (s .plain) then updated (length (removeFirst (same m) (s .plain))) (strikeRebuilt alongX auxiliary m (s .tree))
     else refusal 9 0)
-answer (count b) s = orRefused (enterBox b) (λ b. counted (countIf (holds b) (s .plain)) (main .count b (s .tree) .visits))
+answer (count b) s =
+    orRefused (enterBox b) (λ b.
+    counted (countIf (holds b) (s .plain)) (main .count b (s .tree) .visits) (totalIf summing (holds b) (s .plain)) (totalIf worst (holds b) (s .plain)))
 answer (list b first second) s =
     orRefused (enterBox b) (λ b.
     let l = filterBy (holds b) (s .plain) in
     let k = length l in
-    if ltb first (3 * k) || ltb second (3 * k) then refusal 10 k
+    if ltb first (4 * k) || ltb second (4 * k) then refusal 10 k
     else listedIn (whichList k) l (main .list b (s .tree) .visits))
 answer check s = updated (length (s .plain)) 0
 

@@ -5,6 +5,7 @@ use mathlib.Core.Bool.{Bool, true, false}
 use mathlib.Core.List.{List, [], _∷_}
 use lib.ListN.{length}
 use Rattle.model.specs.Lists.{countIf, filterBy, removeFirst}
+use Rattle.model.specs.Totals.{Operation, totalIf}
 use Rattle.model.specs.Axis.{Space, Axis, onSide}
 use Rattle.model.specs.Register.{Register}
 
@@ -16,6 +17,12 @@ pub data All {M : Type 0} (P : M → Type 0) : List M → Type 0 where
 abbrev pub SameBag : {M : Type 0} → List M → List M → Type 0
 SameBag {M} l k = (p : M → Bool) → countIf p l ≡ countIf p k
 
+-- "any associative, commutative operation" (R-1), to which 0 is neutral
+pub record OperationLaws {M : Type 0} (P : Operation M) : Type 0 where
+  pub assoc : (a b c : ℕ) → P .join (P .join a b) c ≡ P .join a (P .join b c)
+  pub comm : (a b : ℕ) → P .join a b ≡ P .join b a
+  pub neutral : (a : ℕ) → P .join 0 a ≡ a
+
 module _ {M B : Type 0} where
   -- sameness is an equivalence
   pub record SamenessLaws (S : Space M B) : Type 0 where
@@ -26,14 +33,15 @@ module _ {M B : Type 0} where
   abbrev pub Distinct : Space M B → List M → Type 0
   Distinct S l = (m : M) → countIf (S .same m) l ≤ 1
 
-  -- A strict order, total up to sameness, along which the coordinate does not fall. A box's side is an interval of coordinates, and the box holds
-  -- only marks on it.
+  -- A strict order, total up to sameness, along which the coordinate does not fall, and between marks of which none is below the other it stays. A box's
+  -- side is an interval of coordinates, and the box holds only marks on it.
   pub record AxisLaws (S : Space M B) (A : Axis M B) : Type 0 where
     pub trans : (a b c : M) → A .below a b ≡ true → A .below b c ≡ true → A .below a c ≡ true
     pub linear : (a b c : M) → A .below a b ≡ true → A .below c b ≡ false → A .below a c ≡ true
     pub apart : (a b : M) → A .below a b ≡ true → S .same a b ≡ false
     pub close : (a b : M) → A .below a b ≡ false → A .below b a ≡ false → S .same a b ≡ true
     pub rises : (a b : M) → A .below a b ≡ true → A .at a ≤ A .at b
+    pub level : (a b : M) → A .below a b ≡ false → A .at b ≤ A .at a
     pub lowRises : (b : B) (v w : ℕ) → v ≤ w → A .fromLow b v ≡ true → A .fromLow b w ≡ true
     pub highFalls : (b : B) (v w : ℕ) → v ≤ w → A .toHigh b w ≡ true → A .toHigh b v ≡ true
     pub held : (b : B) (m : M) → S .holds b m ≡ true → onSide A b (A .at m) ≡ true
@@ -56,7 +64,8 @@ module _ {M B : Type 0} where
     pub insert : (m : M) (i : I) (l : List M) → Distinct S (m ∷ l) → Represents i l → Represents (R .insert m i) (m ∷ l)
     pub strike : (m : M) (i : I) (l : List M) → Distinct S l → 0 < countIf (S .same m) l → Represents i l
         → Represents (R .strike m i) (removeFirst (S .same m) l)
-    pub count : (b : B) (i : I) (l : List M) → Represents i l → All (λ m. settled b m ≡ true) l → R .count b i .found ≡ countIf (S .holds b) l
+    pub count : (P : Operation M) → OperationLaws P → (b : B) (i : I) (l : List M) → Represents i l → All (λ m. settled b m ≡ true) l
+        → R .count b i .found P ≡ totalIf P (S .holds b) l
     pub visits : (b : B) (i : I) (l : List M) → Represents i l → R .count b i .visits ≤ bound (length l)
     pub list : (b : B) (i : I) (l : List M) → Represents i l → All (λ m. settled b m ≡ true) l → SameBag (R .list b i .marks) (filterBy (S .holds b) l)
     pub listVisits : (b : B) (i : I) (l : List M) → Represents i l → R .list b i .visits ≤ R .count b i .visits + 2 * length (R .list b i .marks)

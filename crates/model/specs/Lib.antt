@@ -1,6 +1,7 @@
 -- Document 01 as definitions, to be read in this order. `Laws` is what the theorems of proofs/ speak of, and `Slots` serves the layers above: neither
 -- renders a sentence of the paper.
 pub mod Lists
+pub mod Totals
 pub mod Axis
 pub mod Register
 pub mod Tree

@@ -1,19 +1,21 @@
 -- Marks and boxes on a glass sheet, their two orders and the two-fold register (document 01, "Marks, boxes, tables" and "The tree"). Assumes nothing.
-use Prim.Native.Nat.{ℕ}
+use Prim.Native.Nat.{ℕ, _+_, max}
 use mathlib.Core.Bool.{Bool, _&&_, _||_}
 use mathlib.Core.List.{List, [], _∷_}
 use mathlib.Core.Option.{Option}
 use lib.Dec.{leb, ltb}
+use Rattle.model.specs.Totals.{Operation}
 use Rattle.model.specs.Axis.{Space, Axis, lexicographic, equalOn}
 use Rattle.model.specs.Register.{Register, innermost}
 use Rattle.model.specs.Tree.{Tree}
 use Rattle.model.specs.Fold.{fold}
 
--- "A mark is x, y, tag."
+-- "A mark is x, y, tag.", with a grade (R-1)
 pub record Mark : Type 0 where
   pub x : ℕ
   pub y : ℕ
   pub tag : ℕ
+  pub grade : ℕ
 
 -- "A box is x1, x2, y1, y2"
 pub record Box : Type 0 where
@@ -22,8 +24,8 @@ pub record Box : Type 0 where
   pub y1 : ℕ
   pub y2 : ℕ
 
-abbrev pub mark : ℕ → ℕ → ℕ → Mark
-mark a b c = record { x = a; y = b; tag = c }
+abbrev pub mark : ℕ → ℕ → ℕ → ℕ → Mark
+mark a b c g = record { x = a; y = b; tag = c; grade = g }
 
 abbrev pub box : ℕ → ℕ → ℕ → ℕ → Box
 box a b c d = record { x1 = a; x2 = b; y1 = c; y2 = d }
@@ -34,6 +36,17 @@ largestCoordinate = 999999
 
 unfoldable pub markOutside : Mark → Bool
 markOutside m = ltb largestCoordinate (m .x) || ltb largestCoordinate (m .y)
+
+-- "The camera now grades each mark 1 to 100" (R-1)
+unfoldable pub gradeOutside : Mark → Bool
+gradeOutside m = ltb (m .grade) 1 || ltb 100 (m .grade)
+
+-- "the sum of grades and the worst grade in a pane": "Worst is the greatest grade, 0 for an empty box."
+abbrev pub summing : Operation Mark
+summing = record { of = λ m. m .grade; join = _+_ }
+
+abbrev pub worst : Operation Mark
+worst = record { of = λ m. m .grade; join = max }
 
 -- "any words with x1 ≤ x2 and y1 ≤ y2": a box whose sides are the wrong way round
 unfoldable pub boxCrossed : Box → Bool
@@ -52,7 +65,7 @@ belowX = lexicographic byXYTag
 unfoldable pub belowY : Mark → Mark → Bool
 belowY = lexicographic byYXTag
 
--- "Two marks are the same only if all three agree."
+-- "Two marks are the same only if all three agree.": "The grade is no part of a mark's sameness" (R-1)
 unfoldable pub same : Mark → Mark → Bool
 same = equalOn byXYTag
 

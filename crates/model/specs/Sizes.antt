@@ -13,9 +13,9 @@ riseD (suc steps) d n = let higher = riseD steps (suc d) n in if leb (4 ^ suc d)
 unfoldable pub D : ℕ → ℕ
 D n = riseD (3 * n) 0 n
 
--- "A table needs W(C) = 64 + C × (32 + 16 × D(C)) words"
+-- "W(C) becomes 64 + C × (40 + 24 × D(C))" (R-1)
 unfoldable pub W : ℕ → ℕ
-W c = 64 + c * (32 + 16 * D c)
+W c = 64 + c * (40 + 24 * D c)
 
 -- "a capacity C of 1 to 65,536 marks": the largest, and whether C is outside
 abbrev pub largestCapacity : ℕ

@@ -29,7 +29,8 @@ pub run-frame : (place : ℕ → ℕ) (C i : ℕ) (vs xs : List ℕ) → i + len
 run-frame place C i vs xs h = unchanged-weaken (λ j o l. omega (arith, o .1 (omega arith))) (sets-unchanged vs xs (runPlace C i))
 
 module _ {I : Type 0} (A : Axis Mark Box) (f : ℕ → Mark) (place : ℕ → ℕ) (C : ℕ) where
-  pub collect-holds : (but fuel : ℕ) (t : Tree ℕ I) (w taken : ℕ) (xs : List ℕ) → w ≡ weight t → Region place C (length xs) → Held A f place C xs t
+  pub collect-holds : (but fuel : ℕ) (t : Tree ℕ I) (w taken : ℕ) (xs : List ℕ) → w ≡ weight t → Region place C (length xs)
+      → Held A f place C xs t
       → depth t < fuel → taken + weight t ≤ C
       → collect♯ fuel place C but w (number t) taken xs ≡ after (taken + length (without but (marks t))) (sets xs (runPlace C taken) (without but (marks t)))
   unfolding collect♯ collectAt collectLeaf collectInner collectBoth collectParts
@@ -89,7 +90,8 @@ module _ {I : Type 0} (A : Axis Mark Box) (f : ℕ → Mark) (place : ℕ → �
       )
 
 -- none is left out where the one is no slot
-pub every-slot : {I : Type 0} {A : Axis Mark Box} {f : ℕ → Mark} {place : ℕ → ℕ} {C : ℕ} {xs : List ℕ} (t : Tree ℕ I) → C ≤ 65536 → Held A f place C xs t
+pub every-slot : {I : Type 0} {A : Axis Mark Box} {f : ℕ → Mark} {place : ℕ → ℕ} {C : ℕ} {xs : List ℕ} (t : Tree ℕ I) → C ≤ 65536
+    → Held A f place C xs t
     → without noSlot (marks t) ≡ marks t
 every-slot {C = C} t small h = without-none noSlot (marks t) (unused (times noSlot t) (h .within noSlot))
   where

@@ -6,7 +6,7 @@ use mathlib.Core.Logic.{_⊎_, inl, inr}
 use native.Mathlib.Omega.{arith}
 use lib.ListN.{length, getD, set, length-set}
 use lib.Seq.{sets, length-sets, getD-set-same}
-use Rattle.table.specs.Layout.{armWidth, recordWidth, slotPlace, mainPlace, runPlace, recordPlace, levelEnd}
+use Rattle.table.specs.Layout.{markWidth, armWidth, recordWidth, slotPlace, mainPlace, runPlace, recordPlace, levelEnd}
 use Rattle.table.specs.Marks.{slotMark}
 use Rattle.nodes.specs.Arms.{Arm, armWords, armAt, putArm, arms, recordAt, putRecord}
 use Rattle.nodes.proofs.Unchanged.{Off, Apart, Unchanged, unchanged-weaken, unchanged-arm, unchanged-record, unchanged-mark}
@@ -35,15 +35,15 @@ sets-append (v ∷ vs) us xs i =
 pub record Region (place : ℕ → ℕ) (C n : ℕ) : Type 0 where
   pub small : C ≤ 65536
   pub runRoom : runPlace C C ≤ n
-  pub room : (s : ℕ) → s < C → place s + 8 ≤ n
+  pub room : (s : ℕ) → s < C → place s + recordWidth ≤ n
   pub afterHeader : (s : ℕ) → s < C → 64 ≤ place s
-  pub apart : (s q : ℕ) → s < C → q < C → (s ≡ q → ⊥) → Apart (place s) 8 (place q) 8
-  pub offMarks : (s q : ℕ) → s < C → q < C → Apart (place s) 8 (slotPlace q) 3
-  pub offRun : (s : ℕ) → s < C → Apart (runPlace C 0) C (place s) 8
+  pub apart : (s q : ℕ) → s < C → q < C → (s ≡ q → ⊥) → Apart (place s) recordWidth (place q) recordWidth
+  pub offMarks : (s q : ℕ) → s < C → q < C → Apart (place s) recordWidth (slotPlace q) markWidth
+  pub offRun : (s : ℕ) → s < C → Apart (runPlace C 0) C (place s) recordWidth
 
 -- a level of auxiliary records is such a region, and so are the main records
 
-pub level-region : (base C n : ℕ) → C ≤ 65536 → runPlace C C ≤ base → base + 8 * C ≤ n → Region (recordPlace base) C n
+pub level-region : (base C n : ℕ) → C ≤ 65536 → runPlace C C ≤ base → levelEnd base C ≤ n → Region (recordPlace base) C n
 level-region base C n small low high = omega arith
 
 -- and all the records of such a level are there
@@ -55,7 +55,7 @@ main-region C n small high = omega arith
 
 -- a word outside the records of the slots that P tells
 abbrev pub Outside : (ℕ → ℕ) → (ℕ → Type 0) → ℕ → Type 0
-Outside place P i = (s : ℕ) → P s → Off (place s) (place s + 8) i
+Outside place P i = (s : ℕ) → P s → Off (place s) (place s + recordWidth) i
 
 -- all words are the same but for the records of the slots that P tells, and the words from lo to hi
 abbrev pub Frame : (ℕ → ℕ) → (ℕ → Type 0) → ℕ → ℕ → List ℕ → List ℕ → Type 0
@@ -63,7 +63,7 @@ Frame place P lo hi xs ys = Unchanged (λ i. Outside place P i × Off lo hi i) x
 
 -- and but for the arm at the word `at`
 abbrev pub FrameAt : (ℕ → ℕ) → (ℕ → Type 0) → ℕ → ℕ → ℕ → List ℕ → List ℕ → Type 0
-FrameAt place P at lo hi xs ys = Unchanged (λ i. Outside place P i × Off lo hi i × Off at (at + 4) i) xs ys
+FrameAt place P at lo hi xs ys = Unchanged (λ i. Outside place P i × Off lo hi i × Off at (at + armWidth) i) xs ys
 
 module _ {place : ℕ → ℕ} {P : ℕ → Type 0} {lo hi : ℕ} {xs ys : List ℕ} where
   pub frame-weaken : {Q : ℕ → Type 0} → ((s : ℕ) → P s → Q s) → Frame place P lo hi xs ys → Frame place Q lo hi xs ys
@@ -76,7 +76,7 @@ module _ {place : ℕ → ℕ} {P : ℕ → Type 0} {lo hi : ℕ} {xs ys : List 
   frameAt-of a = unchanged-weaken (λ i o. (o .0, o .1)) a
 
   -- an arm within a record: its words are words of that record
-  pub frameAt-record : {at : ℕ} (name : ℕ) → place name ≤ at → at + 4 ≤ place name + 8
+  pub frameAt-record : {at : ℕ} (name : ℕ) → place name ≤ at → at + armWidth ≤ place name + recordWidth
       → FrameAt place P at lo hi xs ys → Frame place (λ s. P s ⊎ (s ≡ name)) lo hi xs ys
   frameAt-record name l u a =
       unchanged-weaken (λ i o. (λ s p. o .0 s (inl p), o .1, λ h. omega (arith, o .0 name (inr refl) (omega arith)))) a
@@ -86,7 +86,8 @@ pub frame-run : {place : ℕ → ℕ} {P : ℕ → Type 0} {xs ys : List ℕ} (l
 frame-run lo hi a = unchanged-weaken (λ i o. (o .0, omega arith)) a
 
 -- an arm and a record written
-pub putArm-frame : {place : ℕ → ℕ} {P : ℕ → Type 0} {lo hi : ℕ} (xs : List ℕ) (at : ℕ) (a : Arm) → FrameAt place P at lo hi xs (putArm xs at a)
+pub putArm-frame : {place : ℕ → ℕ} {P : ℕ → Type 0} {lo hi : ℕ} (xs : List ℕ) (at : ℕ) (a : Arm)
+    → FrameAt place P at lo hi xs (putArm xs at a)
 putArm-frame xs at a = unchanged-weaken (λ i o. o .2) (putArm-unchanged xs at a)
 
 pub putRecord-frame : (place : ℕ → ℕ) (xs : List ℕ) (name : ℕ) (l r : Arm) → Frame place (λ s. s ≡ name) 0 0 xs (putRecord xs (place name) l r)
@@ -120,6 +121,7 @@ putArm-same xs at a room =
       sets-at (armWords a) xs at 1 (omega arith) room,
       sets-at (armWords a) xs at 2 (omega arith) room,
       sets-at (armWords a) xs at 3 (omega arith) room,
+      sets-at (armWords a) xs at 4 (omega arith) room,
     )
 
 pub putRecord-same : (xs : List ℕ) (at : ℕ) (l r : Arm) → at + recordWidth ≤ length xs → recordAt (putRecord xs at l r) at ≡ arms l r

@@ -9,18 +9,24 @@ use lib.Dec.{eqb}
 use lib.ListN.{length, getD, length-append}
 use lib.Seq.{getD-append-add}
 use borrow.Author.Tests.{eq-eqb, eqb-true, eqb-false}
+use Rattle.model.specs.Totals.{total}
 use Rattle.model.specs.Axis.{Axis}
-use Rattle.model.specs.Sheet.{Mark, Box}
+use Rattle.model.specs.Sheet.{Mark, Box, sheet}
+use Rattle.model.specs.Slots.{slotOperation}
 use Rattle.model.specs.Tree.{Tree, leaf, node, weight, marks, least, greatest}
 use Rattle.model.specs.Laws.{All, nil, cons}
 use Rattle.model.proofs.Logic.{by-cases}
+use Rattle.model.proofs.Totals.{join-zero, total-append}
+use Rattle.model.proofs.Slots.{slotOperation-laws}
 use Rattle.model.proofs.Lists.{countIf-append}
 use Rattle.model.proofs.Tree.{weight-marks, marks-pos, marks-least}
-use Rattle.table.specs.Layout.{runPlace}
+use Rattle.table.specs.Layout.{recordWidth, runPlace}
 use Rattle.table.specs.Marks.{slotMark}
+use Rattle.table.specs.Grades.{grading, word, joinedWord}
+use Rattle.table.proofs.Packing.{grading-laws, word-joined}
 use Rattle.nodes.specs.Arms.{Arm, arm, leafNumber, innerNumber, arms, leafArm, overArm, recordAt, putRecord}
 use Rattle.nodes.specs.Weights.{sum}
-use Rattle.nodes.specs.Holds.{armOf, Holds, timesIn, times, Held}
+use Rattle.nodes.specs.Holds.{gradesOf, armOf, Holds, timesIn, times, Held}
 use Rattle.nodes.proofs.Frames.{Region, Frame, frame-run, frame-record, frame-mark, putRecord-frame, putRecord-same}
 use Rattle.nodes.proofs.Counting.{once-length}
 
@@ -78,9 +84,20 @@ all-times [] h = nil
 all-times (s ∷ l) h = cons (h s (rw (eq-eqb s s refl) (omega arith))) (all-times l (λ q k. h q (omega arith)))
 
 -- the arms that the code makes are the trees'
-pub leafArm-of : (s v : ℕ) → s ≤ 65536 → leafArm s v ≡ arm (2 * s) 1 v v
+pub leafArm-of : (f : ℕ → Mark) (s v : ℕ) → s ≤ 65536
+    → leafArm s v (f s .grade) ≡ arm (2 * s) 1 v v (word (total (grading .join) (λ q. grading .of (f q)) (s ∷ [])))
 unfolding leafArm leafNumber
-leafArm-of s v h = let e : s % 2147483648 ≡ s = omega arith in rw e
+leafArm-of f s v h =
+    let e : s % 2147483648 ≡ s = omega arith in
+    rw (e, join-zero grading grading-laws (grading .of (f s)))
+
+-- the grades of two trees together are those of the node over them
+pub gradesOf-over : {I : Type 0} (f : ℕ → Mark) (i : I) (l r : Tree ℕ I)
+    → joinedWord (word (gradesOf f l)) (word (gradesOf f r)) ≡ word (gradesOf f (node i l r))
+unfolding joinedWord
+gradesOf-over f i l r =
+    word-joined (gradesOf f l) (gradesOf f r)
+    ∙ ap word (sym (total-append (slotOperation f grading) (slotOperation-laws f sheet grading grading-laws) (λ s. grading .of (f s)) (marks l) (marks r)))
 
 -- the slots that name a tree's inner nodes: all but its least
 abbrev pub Names : {I : Type 0} → Tree ℕ I → ℕ → Type 0
@@ -131,7 +148,7 @@ module _ {I : Type 0} (A : Axis Mark Box) (f : ℕ → Mark) where
   overArm-of i l r h w =
       let e : least r % 2147483648 ≡ least r = omega arith in
       let k : (weight l + weight r) % 4294967296 ≡ weight l + weight r = omega arith in
-      rw (e, k)
+      rw (e, k, gradesOf-over f i l r)
 
   -- A TREE DEPENDS ON ITS OWN WORDS ALONE: lists of words, of one length or not, that have the same records of its names and the same marks of its slots
   -- hold it alike.
@@ -145,7 +162,8 @@ module _ {I : Type 0} (A : Axis Mark Box) (f : ℕ → Mark) where
         holds-same place xs ys r (λ s. omega (arith, d s)) (λ s k. same s (names-right i l r d s (k .0))) (h .2),
       )
 
-  pub held-same : {place : ℕ → ℕ} {C : ℕ} {xs ys : List ℕ} (t : Tree ℕ I) → ((s : ℕ) → Names t s → recordAt ys (place s) ≡ recordAt xs (place s))
+  pub held-same : {place : ℕ → ℕ} {C : ℕ} {xs ys : List ℕ} (t : Tree ℕ I)
+      → ((s : ℕ) → Names t s → recordAt ys (place s) ≡ recordAt xs (place s))
       → ((s : ℕ) → 0 < times s t → slotMark ys s ≡ slotMark xs s) → Held A f place C xs t → Held A f place C ys t
   held-same {place = place} {xs = xs} {ys = ys} t same mark h = record {
     once = h .once;
@@ -157,7 +175,8 @@ module _ {I : Type 0} (A : Axis Mark Box) (f : ℕ → Mark) where
   module _ {place : ℕ → ℕ} {C n : ℕ} (g : Region place C n) where
     -- A change leaves a tree alone where the slots whose records it touches name none of its inner nodes: they do not stand in it, or are its least.
     pub held-frame : {P : ℕ → Type 0} {lo hi : ℕ} → runPlace C 0 ≤ lo → hi ≤ runPlace C C → {xs ys : List ℕ} → Frame place P lo hi xs ys
-        → ((s : ℕ) → P s → s < C) → (t : Tree ℕ I) → ((s : ℕ) → P s → (times s t ≡ 0) ⊎ (s ≡ least t)) → Held A f place C xs t → Held A f place C ys t
+        → ((s : ℕ) → P s → s < C) → (t : Tree ℕ I) → ((s : ℕ) → P s → (times s t ≡ 0) ⊎ (s ≡ least t))
+        → Held A f place C xs t → Held A f place C ys t
     held-frame low high a inC t out h =
         held-same t (λ s k. frame-record g low high a inC s (h .within s (k .0)) (λ p. names-none t s (out s p) k))
         (λ s k. frame-mark g low high a inC s (h .within s k)) h
@@ -168,7 +187,7 @@ module _ {I : Type 0} (A : Axis Mark Box) (f : ℕ → Mark) where
     node-held i l r xs ln hl hr d =
         let name = least r in
         let inC : name < C = held-least hr in
-        let room : place name + 8 ≤ length xs = omega (arith, g .room name inC) in
+        let room : place name + recordWidth ≤ length xs = omega (arith, g .room name inC) in
         let a = putRecord-frame place xs name (armOf A f l) (armOf A f r) in
         let fr = frame-run (runPlace C 0) (runPlace C C) a in
         let ys : List ℕ = putRecord xs (place name) (armOf A f l) (armOf A f r) in
@@ -179,7 +198,8 @@ module _ {I : Type 0} (A : Axis Mark Box) (f : ℕ → Mark) where
         held-over i l r (putRecord-same xs (place name) (armOf A f l) (armOf A f r) room) kl kr d
 
 -- What an operation leaves: the arm of a tree that the words hold, and all words as they were but for the records of the tree's names and run A.
-pub record Leaves {I : Type 0} (A : Axis Mark Box) (f : ℕ → Mark) (place : ℕ → ℕ) (C : ℕ) (xs : List ℕ) (a : Arm) (ys : List ℕ) (t : Tree ℕ I) : Type 0 where
+pub record Leaves
+    {I : Type 0} (A : Axis Mark Box) (f : ℕ → Mark) (place : ℕ → ℕ) (C : ℕ) (xs : List ℕ) (a : Arm) (ys : List ℕ) (t : Tree ℕ I) : Type 0 where
   pub is : a ≡ armOf A f t
   pub held : Held A f place C ys t
   pub frame : Frame place (Names t) (runPlace C 0) (runPlace C C) xs ys

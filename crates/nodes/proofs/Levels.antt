@@ -12,14 +12,14 @@ use Rattle.model.specs.Sheet.{Mark, Box}
 use Rattle.model.specs.Tree.{Tree, weight, depth, Balanced}
 use Rattle.model.proofs.Sizes.{D-between, D-rises}
 use Rattle.model.proofs.Depth.{balanced-depth}
-use Rattle.table.specs.Layout.{mainPlace, levelPlace, recordPlace}
+use Rattle.table.specs.Layout.{recordWidth, mainPlace, levelPlace, recordPlace}
 use Rattle.nodes.specs.Holds.{Held}
 use Rattle.nodes.proofs.Frames.{Region, level-region, main-region}
 use Rattle.nodes.proofs.Held.{held-weight}
 
-pub W-words : (C : ℕ) → W C ≡ 64 + 32 * C + 16 * (D C * C)
+pub W-words : (C : ℕ) → W C ≡ 64 + 40 * C + 24 * (D C * C)
 unfolding W
-W-words C = omega (arith, mul-add C 32 (16 * D C), mul-left-comm C 16 (D C), mul-comm C (D C), mul-comm C 32)
+W-words C = omega (arith, mul-add C 40 (24 * D C), mul-left-comm C 24 (D C), mul-comm C (D C), mul-comm C 40)
 
 level-after : (C d e : ℕ) → d < e → d * C + C ≤ e * C
 level-after C d e h = omega (arith, suc-mul d C, mul-le-mul-right {m = suc d} {n = e} C h)
@@ -32,7 +32,7 @@ module _ (C : ℕ) (small : C ≤ largestCapacity) where
   table-main = main-region C (W C) small (omega (arith, W-words C))
 
 -- records of two levels do not meet
-pub levels-apart : (C d e s q : ℕ) → d < e → s < C → q < C → recordPlace (levelPlace C d) s + 8 ≤ recordPlace (levelPlace C e) q
+pub levels-apart : (C d e s q : ℕ) → d < e → s < C → q < C → recordPlace (levelPlace C d) s + recordWidth ≤ recordPlace (levelPlace C e) q
 levels-apart C d e s q h k l = omega (arith, level-after C d e h)
 
 -- the levels of the largest capacity
@@ -42,7 +42,8 @@ most-levels C h =
     let high : 3 ^ 39 * 65536 < 4 ^ 39 = ltb-true (3 ^ 39 * 65536) (4 ^ 39) refl in
     omega (arith, D-rises C largestCapacity h, D-between largestCapacity 38 low high)
 
-module _ {I : Type 0} {A : Axis Mark Box} {f : ℕ → Mark} {place : ℕ → ℕ} {C : ℕ} {xs : List ℕ} {t : Tree ℕ I} (h : Held A f place C xs t) (b : Balanced t) where
+module _ {I : Type 0} {A : Axis Mark Box} {f : ℕ → Mark} {place : ℕ → ℕ} {C : ℕ} {xs : List ℕ}
+    {t : Tree ℕ I} (h : Held A f place C xs t) (b : Balanced t) where
   pub held-depth : depth t ≤ D C
   held-depth = omega (arith, balanced-depth t b, D-rises (weight t) C (held-weight h))
 

@@ -5,21 +5,24 @@ use mathlib.Core.Bool.{Bool, true, false, not}
 use mathlib.Core.List.{List, _++_}
 use native.Mathlib.Omega.{arith}
 use borrow.Author.Tests.{lt-leb}
+use Rattle.model.specs.Totals.{counting}
 use Rattle.model.specs.Axis.{Axis}
 use Rattle.model.specs.Register.{Found, Register}
 use Rattle.model.specs.Tree.{Tree, leaf, node, depth, marks, least, greatest}
-use Rattle.model.specs.Search.{inside, clear, arrive, together, search}
+use Rattle.model.specs.Search.{inside, clear, arrive, together, nothing, search}
 use Rattle.model.specs.Sheet.{Mark, Box, sheet}
-use Rattle.model.specs.Slots.{slotSpace, slotAxis}
+use Rattle.model.specs.Slots.{slotSpace, slotAxis, slotOperation}
 use Rattle.model.specs.Laws.{AxisLaws, Straight, Sorted}
 use Rattle.model.proofs.Logic.{by-cases, clash, and-left, and-right, or-true-right}
 use Rattle.model.proofs.Sorted.{sorted-left, sorted-right}
 use Rattle.model.proofs.Tree.{all-least}
 use Rattle.model.proofs.Search.{cell-ordered, cells-follow, clear-none}
-use Rattle.table.specs.Tally.{visited}
+use Rattle.table.specs.Grades.{joined, grading}
+use Rattle.table.specs.Figures.{packed, arrived}
+use Rattle.table.proofs.Packing.{joined-assoc, joined-comm, joined-round, packed-joined, grading-laws}
 use Rattle.nodes.specs.Arms.{Record, arms, recordAt}
 use Rattle.nodes.specs.Holds.{number, armOf}
-use Rattle.nodes.specs.Count.{Kind, added, Side, sideAlong, lowRecord, lowNode, lowFrom, highRecord, highNode, highFrom, lowEnd, highEnd}
+use Rattle.nodes.specs.Count.{Kind, figures, added, Side, sideAlong, lowRecord, lowNode, lowFrom, highRecord, highNode, highFrom, lowEnd, highEnd}
 use Rattle.nodes.specs.Count.{openRecord, openNode, openFrom, countTree}
 
 -- a cell that begins past the side is clear of it
@@ -28,9 +31,9 @@ clear-past A b t e = or-true-right (not (A .fromLow b (A .at (greatest t)))) (no
 
 -- T is a tally, onto which a count's figures are added: those of two trees one after the other, in either order, and those of a node after its own visit
 module _ {I T : Type 0} (K : Kind T) (X : Axis Mark Box) (b : Box) (f : ℕ → Mark) (R : Register ℕ Box I) (O : AxisLaws (slotSpace f sheet) (slotAxis f X))
-    (C : ℕ) (xs : List ℕ) (add : Found → T → T) (add-both : (g h : Found) (tally : T) → add (together g h) tally ≡ add h (add g tally))
-    (add-swap : (g h : Found) (tally : T) → add g (add h tally) ≡ add h (add g tally))
-    (add-arrive : (g : Found) (tally : T) → add (arrive g) tally ≡ add g (K .visit tally)) where
+    (C : ℕ) (xs : List ℕ) (add : Found ℕ → T → T) (add-both : (g h : Found ℕ) (tally : T) → add (together g h) tally ≡ add h (add g tally))
+    (add-swap : (g h : Found ℕ) (tally : T) → add g (add h tally) ≡ add h (add g tally))
+    (add-arrive : (g : Found ℕ) (tally : T) → add (arrive g) tally ≡ add g (K .visit tally)) where
   abbrev S : Side
   S = sideAlong X b
 
@@ -38,7 +41,7 @@ module _ {I T : Type 0} (K : Kind T) (X : Axis Mark Box) (b : Box) (f : ℕ → 
   A = slotAxis f X
 
   -- the model's count
-  abbrev found : Tree ℕ I → Found
+  abbrev found : Tree ℕ I → Found ℕ
   found = search (slotSpace f sheet) A R b
 
   -- the side has begun where the cell begins, and where it ends; and has not ended where the cell begins, and where it ends
@@ -71,7 +74,7 @@ module _ {I T : Type 0} (K : Kind T) (X : Axis Mark Box) (b : Box) (f : ℕ → 
   goesOn-lasts l r s e = O .highFalls b (A .at (greatest l)) (A .at (least r)) (cells-follow (slotSpace f sheet) A O l r s) e
 
   -- a clear cell is visited, and adds nothing
-  pub found-clear : (t : Tree ℕ I) → Ordered t → clear A b t ≡ true → found t ≡ record { found = 0; visits = 1 }
+  pub found-clear : (t : Tree ℕ I) → Ordered t → clear A b t ≡ true → found t ≡ nothing
   found-clear (leaf m) s e = let h = all-least {I = I} (leaf m) (clear-none {I = I} (slotSpace f sheet) A O b (leaf m) s e) in rw h
   found-clear (node i l r) s e =
       by-cases (inside A b (node i l r))
@@ -216,7 +219,8 @@ module _ {I T : Type 0} (K : Kind T) (X : Axis Mark Box) (b : Box) (f : ℕ → 
     past-begins t q = by-cases (begins t) (λ p. p) (λ p. clash (straight (A .at (greatest t)) p) q)
 
     -- beneath a node whose cell is neither inside the side nor clear of it, once it is visited
-    open-adds : (n base : ℕ) (t : Tree ℕ I) → depth t ≤ n → depth t ≤ 40 → Laid base t → Ordered t → inside A b t ≡ false → begins t ≡ true → goesOn t ≡ true
+    open-adds : (n base : ℕ) (t : Tree ℕ I) → depth t ≤ n → depth t ≤ 40 → Laid base t → Ordered t → inside A b t ≡ false
+        → begins t ≡ true → goesOn t ≡ true
         → (tally : T) → openFrom K S C xs n base (number t) (K .visit tally) ≡ add (found t) tally
     unfolding openRecord
     open-adds n base (leaf m) d g h s i p o tally = let no : clear {I = I} A b (leaf m) ≡ false = rw (p, o) in clash (leaf-clear m i) no
@@ -267,14 +271,34 @@ module _ {I T : Type 0} (K : Kind T) (X : Axis Mark Box) (b : Box) (f : ℕ → 
         (λ p. rw (i, p) (a .skips p tally)))
 
 -- the tally in one number: sums go round at 2^64, so no bound is asked for
-pub added-both : (g h : Found) (tally : ℕ) → added (together g h) tally ≡ added h (added g tally)
+pub added-both : (f : ℕ → Mark) (g h : Found ℕ) (tally : ℕ) → added f (together g h) tally ≡ added f h (added f g tally)
 unfolding added
-added-both g h tally = omega arith
+added-both f g h tally = rw (
+  joined-round (joined tally (figures f g)) (figures f h),
+  joined-assoc tally (figures f g) (figures f h),
+  packed-joined (g .found counting) (g .visits) (g .found (slotOperation f grading)) (h .found counting) (h .visits) (h .found (slotOperation f grading)),
+)
 
-pub added-swap : (g h : Found) (tally : ℕ) → added g (added h tally) ≡ added h (added g tally)
+pub added-swap : (f : ℕ → Mark) (g h : Found ℕ) (tally : ℕ) → added f g (added f h tally) ≡ added f h (added f g tally)
 unfolding added
-added-swap g h tally = omega arith
+added-swap f g h tally = rw (
+  joined-round (joined tally (figures f g)) (figures f h),
+  joined-round (joined tally (figures f h)) (figures f g),
+  joined-assoc tally (figures f g) (figures f h),
+  joined-assoc tally (figures f h) (figures f g),
+  joined-comm (figures f g) (figures f h),
+)
 
-pub added-arrive : (g : Found) (tally : ℕ) → added (arrive g) tally ≡ added g (visited tally 0)
-unfolding added visited
-added-arrive g tally = omega arith
+pub added-arrive : (f : ℕ → Mark) (g : Found ℕ) (tally : ℕ) → added f (arrive g) tally ≡ added f g (arrived tally 0 0)
+unfolding added arrived
+added-arrive f g tally =
+    let none : 0 + g .found counting ≡ g .found counting = omega arith in
+    let one : 1 + g .visits ≡ g .visits + 1 = omega arith in
+    rw (
+      joined-round (joined tally (packed 0 1 0)) (figures f g),
+      joined-assoc tally (packed 0 1 0) (figures f g),
+      packed-joined 0 1 0 (g .found counting) (g .visits) (g .found (slotOperation f grading)),
+      grading-laws .neutral (g .found (slotOperation f grading)),
+      none,
+      one,
+    )

@@ -9,7 +9,7 @@ use lib.Seq.{sets, length-sets}
 use Rattle.model.specs.Axis.{Axis}
 use Rattle.model.specs.Sheet.{Mark, Box}
 use Rattle.model.specs.Tree.{Tree, node, least}
-use Rattle.table.specs.Layout.{capacityPlace, slotPlace, auxiliaryPlace, runPlace, recordPlace}
+use Rattle.table.specs.Layout.{markWidth, armWidth, recordWidth, capacityPlace, slotPlace, auxiliaryPlace, runPlace, recordPlace}
 use Rattle.table.specs.Marks.{slotMark}
 use Rattle.nodes.specs.Arms.{Arm, arms, armAt, putArm, recordAt}
 use Rattle.nodes.specs.Holds.{armOf, times, Held}
@@ -18,18 +18,18 @@ use Rattle.nodes.proofs.Frames.{putArm-same, Region, Frame, FrameAt, fr
 use Rattle.nodes.proofs.Held.{times-least, held-least, held-same, held-frame, held-over, Names, names-left, names-right, names-own, Leaves}
 
 -- a record is two arms
-pub record-arms : (xs : List ℕ) (p : ℕ) → recordAt xs p ≡ arms (armAt xs p) (armAt xs (p + 4))
+pub record-arms : (xs : List ℕ) (p : ℕ) → recordAt xs p ≡ arms (armAt xs p) (armAt xs (p + armWidth))
 unfolding recordAt
 record-arms xs p = refl
 
--- The four words at `at` are a place for the arm of a tree whose update touches the records of P, in a table of capacity C and n words: after the
+-- The words from `at` on are a place for the arm of a tree whose update touches the records of P, in a table of capacity C and n words: after the
 -- capacity's word, and apart from run A, from the marks and from those records.
 pub record Spot (place : ℕ → ℕ) (C : ℕ) (P : ℕ → Type 0) (at n : ℕ) : Type 0 where
-  pub room : at + 4 ≤ n
+  pub room : at + armWidth ≤ n
   pub afterCapacity : capacityPlace < at
-  pub offRun : Apart (runPlace C 0) C at 4
-  pub offMarks : (q : ℕ) → q < C → Apart at 4 (slotPlace q) 3
-  pub offRecords : (q : ℕ) → P q → Apart (place q) 8 at 4
+  pub offRun : Apart (runPlace C 0) C at armWidth
+  pub offMarks : (q : ℕ) → q < C → Apart at armWidth (slotPlace q) markWidth
+  pub offRecords : (q : ℕ) → P q → Apart (place q) recordWidth at armWidth
 
 module _ {place : ℕ → ℕ} {C n : ℕ} where
   pub spot-weaken : {P Q : ℕ → Type 0} {at : ℕ} → ((s : ℕ) → Q s → P s) → Spot place C P at n → Spot place C Q at n
@@ -42,8 +42,9 @@ module _ {place : ℕ → ℕ} {C n : ℕ} where
   }
 
   -- an arm of the record of a slot that P does not tell
-  pub record-spot : {P : ℕ → Type 0} (at name : ℕ) → Region place C n → name < C → ((s : ℕ) → P s → s < C) → (P name → ⊥) → place name ≤ at
-      → at + 4 ≤ place name + 8 → Spot place C P at n
+  pub record-spot : {P : ℕ → Type 0} (at name : ℕ) → Region place C n → name < C → ((s : ℕ) → P s → s < C) → (P name → ⊥)
+      → place name ≤ at
+      → at + armWidth ≤ place name + recordWidth → Spot place C P at n
   record-spot {P = P} at name g h inC out l u = record {
     room = omega (arith, g .room name h);
     afterCapacity = omega (arith, g .afterHeader name h);
@@ -54,7 +55,8 @@ module _ {place : ℕ → ℕ} {C n : ℕ} where
 
   module _ {P : ℕ → Type 0} {at : ℕ} (t : Spot place C P at n) where
     -- the arm at a spot stays where another arm is changed
-    pub spot-kept : {other : ℕ} {xs ys : List ℕ} → FrameAt place P other (runPlace C 0) (runPlace C C) xs ys → Apart other 4 at 4 → armAt ys at ≡ armAt xs at
+    pub spot-kept : {other : ℕ} {xs ys : List ℕ} → FrameAt place P other (runPlace C 0) (runPlace C C) xs ys
+        → Apart other armWidth at armWidth → armAt ys at ≡ armAt xs at
     spot-kept a h =
         unchanged-arm a at (λ i l u. (
           λ q p k. omega (arith, t .offRecords q p (omega arith)),
@@ -63,7 +65,8 @@ module _ {place : ℕ → ℕ} {C n : ℕ} where
         ))
 
     -- an arm within the record of a slot that P tells is apart from the spot
-    pub spot-apart : (name other : ℕ) → P name → place name ≤ other → other + 4 ≤ place name + 8 → Apart other 4 at 4
+    pub spot-apart : (name other : ℕ) → P name → place name ≤ other → other + armWidth ≤ place name + recordWidth
+        → Apart other armWidth at armWidth
     spot-apart name other p l u k = omega (arith, t .offRecords name p (omega arith))
 
     -- the capacity stays
@@ -81,7 +84,7 @@ module _ {place : ℕ → ℕ} {C n : ℕ} where
       spot-held A f u w h =
           held-same A f u
           (λ s k. unchanged-record (putArm-unchanged xs at a) (place s)
-          (λ i l m o. omega (arith, apart-sym (place s) 8 at 4 (t .offRecords s (w s k)) (omega arith))))
+          (λ i l m o. omega (arith, apart-sym (place s) recordWidth at armWidth (t .offRecords s (w s k)) (omega arith))))
           (λ s k. spot-mark s (h .within s k)) h
 
 -- the arm of the auxiliary tree of a main node, whose records stand in a level
@@ -102,7 +105,7 @@ module _ {I : Type 0} (A : Axis Mark Box) (f : ℕ → Mark) {place : ℕ → �
       → FrameAt place (Names t) at (runPlace C 0) (runPlace C C) xs ys → Leaves A f place C ys a zs t → LeavesAt A f place C at xs (putArm zs at a) t
   put-leaves {zs = zs} {a = a} t ln s b h =
       let long : length zs ≡ n = h .frame .long ∙ b .long ∙ ln in
-      let room : at + 4 ≤ length zs = omega (arith, s .room) in
+      let room : at + armWidth ≤ length zs = omega (arith, s .room) in
       record {
         is = putArm-same zs at a room ∙ h .is;
         held = spot-held s zs a A f t (λ q k. k) (h .held);
@@ -113,14 +116,16 @@ module _ {I : Type 0} (A : Axis Mark Box) (f : ℕ → Mark) {place : ℕ → �
   module _ (g : Region place C n) (i : I) (l r : Tree ℕ I) (spot : Spot place C (Names (node i l r)) at n) (d : (s : ℕ) → times s l + times s r ≤ 1)
       {xs ys zs : List ℕ} (ln : length ys ≡ n) (is : armAt ys at ≡ armOf A f (node i l r))
       (before : FrameAt place (Names (node i l r)) at (runPlace C 0) (runPlace C C) xs ys) where
-    over-leaves : {P : ℕ → Type 0} (other : ℕ) → ((s : ℕ) → P s → Names (node i l r) s) → place (least r) ≤ other → other + 4 ≤ place (least r) + 8
+    over-leaves : {P : ℕ → Type 0} (other : ℕ) → ((s : ℕ) → P s → Names (node i l r) s) → place (least r) ≤ other
+        → other + armWidth ≤ place (least r) + recordWidth
         → FrameAt place P other (runPlace C 0) (runPlace C C) ys zs
-        → Held A f place C zs l → Held A f place C zs r → armAt zs (place (least r)) ≡ armOf A f l → armAt zs (place (least r) + 4) ≡ armOf A f r
+        → Held A f place C zs l → Held A f place C zs r → armAt zs (place (least r)) ≡ armOf A f l
+        → armAt zs (place (least r) + armWidth) ≡ armOf A f r
         → LeavesAt A f place C at xs zs (node i l r)
     over-leaves {P = P} other w low high b hl hr el er =
         let name = least r in
         let own = names-own i l r d name refl in
-        let room : place name + 8 ≤ length zs = omega (arith, g .room name (held-least hr), b .long) in
+        let room : place name + recordWidth ≤ length zs = omega (arith, g .room name (held-least hr), b .long) in
         let c : Frame place (Names (node i l r)) (runPlace C 0) (runPlace C C) ys zs =
         frame-weaken (λ s p. tells s p) (frameAt-record name low high b) in
         record {
@@ -133,13 +138,13 @@ module _ {I : Type 0} (A : Axis Mark Box) (f : ℕ → Mark) {place : ℕ → �
         tells s (inl p) = w s p
         tells s (inr e) = names-own i l r d s e
 
-    pub left-leaves : Held A f place C ys r → armAt ys (place (least r) + 4) ≡ armOf A f r → LeavesAt A f place C (place (least r)) ys zs l
+    pub left-leaves : Held A f place C ys r → armAt ys (place (least r) + armWidth) ≡ armOf A f r → LeavesAt A f place C (place (least r)) ys zs l
         → LeavesAt A f place C at xs zs (node i l r)
     left-leaves hr er h =
         let name = least r in
         let inC : ((s : ℕ) → Names l s → s < C) = λ s k. h .held .within s (k .0) in
         let own : name < C = held-least hr in
-        let beside = record-spot (place name + 4) name g own inC (λ k. omega (arith, k .0, d name, times-least r)) (omega arith) (omega arith) in
+        let beside = record-spot (place name + armWidth) name g own inC (λ k. omega (arith, k .0, d name, times-least r)) (omega arith) (omega arith) in
         let c = frameAt-record name (omega arith) (omega arith) (h .frame) in
         over-leaves (place name) (names-left i l r) (omega arith) (omega arith) (h .frame) (h .held)
         (held-frame A f g (omega arith) (omega arith) c (λ s k. within s k) r (λ s k. out s k) hr)
@@ -153,7 +158,7 @@ module _ {I : Type 0} (A : Axis Mark Box) (f : ℕ → Mark) {place : ℕ → �
         out s (inl k) = inl (omega (arith, k .0, d s))
         out s (inr e) = inr e
 
-    pub right-leaves : Held A f place C ys l → armAt ys (place (least r)) ≡ armOf A f l → LeavesAt A f place C (place (least r) + 4) ys zs r
+    pub right-leaves : Held A f place C ys l → armAt ys (place (least r)) ≡ armOf A f l → LeavesAt A f place C (place (least r) + armWidth) ys zs r
         → LeavesAt A f place C at xs zs (node i l r)
     right-leaves hl el h =
         let name = least r in
@@ -161,7 +166,7 @@ module _ {I : Type 0} (A : Axis Mark Box) (f : ℕ → Mark) {place : ℕ → �
         let own : name < C = held-least (h .held) in
         let beside = record-spot (place name) name g own inC (λ k. k .1 refl) (omega arith) (omega arith) in
         let c = frameAt-record name (omega arith) (omega arith) (h .frame) in
-        over-leaves (place name + 4) (λ s k. names-right i l r d s (k .0)) (omega arith) (omega arith) (h .frame)
+        over-leaves (place name + armWidth) (λ s k. names-right i l r d s (k .0)) (omega arith) (omega arith) (h .frame)
         (held-frame A f g (omega arith) (omega arith) c (λ s k. within s k) l (λ s k. inl (out s k)) hl)
         (h .held) (spot-kept beside (h .frame) (omega arith) ∙ el) (h .is)
       where

@@ -34,7 +34,8 @@ collectSteps (suc f) place capacity but w n taken xs =
     else stepsBoth (collectSteps f place capacity but) (collect♯ f place capacity but) (recordAt xs (place (n / 2))) w taken xs)))
 
 -- what is beneath a node of weight w, where the bound holds of its children
-both-bound : (rec : Counting) → ((w n taken : ℕ) (xs : List ℕ) → 1 ≤ w → rec w n taken xs + 1 ≤ 2 * w) → (collects : Collection) (p : Record) (w taken : ℕ)
+both-bound : (rec : Counting) → ((w n taken : ℕ) (xs : List ℕ) → 1 ≤ w → rec w n taken xs + 1 ≤ 2 * w)
+    → (collects : Collection) (p : Record) (w taken : ℕ)
     (xs : List ℕ) → 1 ≤ w → stepsBoth rec collects p w taken xs + 2 ≤ 2 * w
 unfolding stepsBoth stepsBeneath
 both-bound rec bound collects p w taken xs h =
@@ -53,7 +54,8 @@ both-bound rec bound collects p w taken xs h =
       bound (w - p .left .weight) (p .right .node) (half .out) (half .words) (omega arith),
     ))))
 
-pub collect-steps : (f : ℕ) (place : ℕ → ℕ) (capacity but w n taken : ℕ) (xs : List ℕ) → 1 ≤ w → collectSteps f place capacity but w n taken xs + 1 ≤ 2 * w
+pub collect-steps : (f : ℕ) (place : ℕ → ℕ) (capacity but w n taken : ℕ) (xs : List ℕ) → 1 ≤ w
+    → collectSteps f place capacity but w n taken xs + 1 ≤ 2 * w
 unfolding collectSteps
 collect-steps zero place capacity but w n taken xs h = omega arith
 collect-steps (suc f) place capacity but w n taken xs h =

@@ -12,8 +12,10 @@ use Rattle.table.specs.After.{After, after}
 use Rattle.table.specs.Limits.{damaged}
 use Rattle.nodes.specs.Arms.{Record}
 use Rattle.nodes.specs.Collect.{strided, collectParts, collectLeaf, collectInner, collectAt, collect♯, collect♯-zero, collect♯-suc}
+use Rattle.table.specs.Layout.{recordWidth}
 
-pub strided-there : (first stride capacity name n : ℕ) → name < capacity → 8 ≤ stride → strided first stride capacity ≤ n → strided first stride name + 8 ≤ n
+pub strided-there : (first stride capacity name n : ℕ) → name < capacity → recordWidth ≤ stride → strided first stride capacity ≤ n
+    → strided first stride name + recordWidth ≤ n
 strided-there first stride capacity name n h wide room =
     let more : name + 1 ≤ capacity = omega arith in
     omega (arith, mul-le-mul-left stride more, mul-add stride name 1)

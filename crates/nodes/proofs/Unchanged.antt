@@ -9,7 +9,7 @@ use lib.ListN.{length, getD, set, length-set}
 use lib.Seq.{sets, length-sets, getD-set-other}
 use borrow.Author.Tests.{ltb-true, ltb-false}
 use Rattle.model.proofs.Logic.{by-cases}
-use Rattle.table.specs.Layout.{armWidth, recordWidth, slotPlace}
+use Rattle.table.specs.Layout.{markWidth, armWidth, recordWidth, slotPlace}
 use Rattle.table.specs.Marks.{markAt, slotMark}
 use Rattle.nodes.specs.Arms.{Arm, armWords, armAt, putArm, recordAt, putRecord}
 
@@ -82,7 +82,7 @@ module _ {kept : ℕ → Type 0} {xs ys : List ℕ} (a : Unchanged kept xs ys) w
   unfolding armAt
   unchanged-arm at k =
       let w = words at armWidth k in
-      rw (a .same at (k at (omega arith) (omega arith)), w 1 (omega arith), w 2 (omega arith), w 3 (omega arith))
+      rw (a .same at (k at (omega arith) (omega arith)), w 1 (omega arith), w 2 (omega arith), w 3 (omega arith), w 4 (omega arith))
 
   pub unchanged-record : (at : ℕ) → Keeps kept at (at + recordWidth) → recordAt ys at ≡ recordAt xs at
   unfolding recordAt
@@ -91,8 +91,8 @@ module _ {kept : ℕ → Type 0} {xs ys : List ℕ} (a : Unchanged kept xs ys) w
     unchanged-arm (at + armWidth) (λ i l u. k i (omega arith) (omega arith)),
   )
 
-  pub unchanged-mark : (s : ℕ) → Keeps kept (slotPlace s) (slotPlace s + 3) → slotMark ys s ≡ slotMark xs s
+  pub unchanged-mark : (s : ℕ) → Keeps kept (slotPlace s) (slotPlace s + markWidth) → slotMark ys s ≡ slotMark xs s
   unfolding slotMark markAt
   unchanged-mark s k =
-      let w = words (slotPlace s) 3 k in
-      rw (a .long, a .same (slotPlace s) (k (slotPlace s) (omega arith) (omega arith)), w 1 (omega arith), w 2 (omega arith))
+      let w = words (slotPlace s) markWidth k in
+      rw (a .long, a .same (slotPlace s) (k (slotPlace s) (omega arith) (omega arith)), w 1 (omega arith), w 2 (omega arith), w 3 (omega arith))

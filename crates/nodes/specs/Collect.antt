@@ -49,7 +49,8 @@ unfoldable pub collect♯ : ℕ → (ℕ → ℕ) → ℕ → ℕ → Collection
 collect♯ zero place capacity but w n taken xs = after damaged xs
 collect♯ (suc f) place capacity but w n taken xs = collectAt (collect♯ f place capacity but) place capacity but w n taken xs
 
-pub collect♯-zero : (f : ℕ) → f ≡ 0 → (place : ℕ → ℕ) (capacity but w n taken : ℕ) (xs : List ℕ) → collect♯ f place capacity but w n taken xs ≡ after damaged xs
+pub collect♯-zero : (f : ℕ) → f ≡ 0 → (place : ℕ → ℕ) (capacity but w n taken : ℕ) (xs : List ℕ)
+    → collect♯ f place capacity but w n taken xs ≡ after damaged xs
 unfolding collect♯
 collect♯-zero f e place capacity but w n taken xs = rw e
 

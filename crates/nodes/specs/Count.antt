@@ -8,9 +8,13 @@ use native.Mathlib.Omega.{arith}
 use lib.Dec.{leb}
 use Rattle.model.specs.Lists.{if_then_else_}
 use Rattle.model.specs.Axis.{Axis}
+use Rattle.model.specs.Totals.{counting}
 use Rattle.model.specs.Register.{Found}
+use Rattle.model.specs.Slots.{slotOperation}
 use Rattle.model.specs.Sheet.{Mark, Box}
 use Rattle.table.specs.Limits.{deepest}
+use Rattle.table.specs.Grades.{joined, grading}
+use Rattle.table.specs.Figures.{packed}
 use Rattle.nodes.specs.Arms.{Arm, Record, recordAt}
 
 -- a kind of tree: where the record of a name stands in the level that begins at a word, where the next level begins, and what an arrival makes of a tally:
@@ -25,9 +29,12 @@ pub record Kind (T : Type 0) : Type 0 where
   pub visit : T → T
   pub lost : T
 
--- figures added to a tally in one number
-unfoldable pub added : Found → ℕ → ℕ
-added g tally = (tally + (4294967296 * g .found + g .visits)) % 2 ^ 64
+-- the figures of a count, where slot s has the mark f s, in one number; and added to a tally
+abbrev pub figures : (ℕ → Mark) → Found ℕ → ℕ
+figures f g = packed (g .found counting) (g .visits) (g .found (slotOperation f grading))
+
+unfoldable pub added : (ℕ → Mark) → Found ℕ → ℕ → ℕ
+added f g tally = joined tally (figures f g) % 2 ^ 64
 
 -- a side of a box: whether a coordinate has reached its low end, and has not passed its high end
 pub record Side : Type 0 where

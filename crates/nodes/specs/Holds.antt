@@ -5,11 +5,13 @@ use mathlib.Core.Path.{_≡_}
 use mathlib.Core.List.{List, _++_}
 use lib.Dec.{eqb}
 use Rattle.model.specs.Lists.{countIf}
+use Rattle.model.specs.Totals.{total}
 use Rattle.model.specs.Axis.{Axis}
 use Rattle.model.specs.Sheet.{Mark, Box}
 use Rattle.model.specs.Tree.{Tree, leaf, node, weight, marks, least, greatest}
 use Rattle.model.specs.Laws.{SameBag}
 use Rattle.table.specs.Marks.{slotMark}
+use Rattle.table.specs.Grades.{grading, word}
 use Rattle.nodes.specs.Arms.{Arm, arm, arms, recordAt}
 
 module _ {I : Type 0} where
@@ -18,10 +20,14 @@ module _ {I : Type 0} where
   number (leaf s) = 2 * s
   number (node i l r) = 2 * least r + 1
 
-  -- along the axis A, where slot s has the mark f s: the arm of a tree
+  -- where slot s has the mark f s: the figure of the grades of a tree's marks
+  abbrev pub gradesOf : (ℕ → Mark) → Tree ℕ I → ℕ
+  gradesOf f t = total (grading .join) (λ s. grading .of (f s)) (marks t)
+
+  -- and along the axis A the arm of the tree
   module _ (A : Axis Mark Box) (f : ℕ → Mark) where
     abbrev pub armOf : Tree ℕ I → Arm
-    armOf t = arm (number t) (weight t) (A .at (f (least t))) (A .at (f (greatest t)))
+    armOf t = arm (number t) (weight t) (A .at (f (least t))) (A .at (f (greatest t))) (word (gradesOf f t))
 
     -- the words hold the tree, its records at the places that its names give: "at each inner node the record equals the arms of its children"
     abbrev pub Holds : (ℕ → ℕ) → List ℕ → Tree ℕ I → Type 0

@@ -10,19 +10,19 @@ use Rattle.nodes.specs.declared.secondary.SecondaryRecord.{SecondaryReco
 use Rattle.nodes.specs.declared.secondary.SecondaryWay.{SecondaryWay}
 
 abbrev pub armValue : declaredArm.Arm → Arm
-armValue a = arm (a .node) (a .weight) (a .least) (a .greatest)
+armValue a = arm (a .node) (a .weight) (a .least) (a .greatest) (a .grades)
 
 abbrev pub recordValue : declaredRecord.Record → Record
 recordValue p = arms (armValue (p .left)) (armValue (p .right))
 
 abbrev pub secondaryArm : SecondaryArm → Arm
-secondaryArm a = arm (a .node .0) (a .weight) (a .least) (a .greatest)
+secondaryArm a = arm (a .node .0) (a .weight) (a .least) (a .greatest) (a .grades)
 
 abbrev pub secondaryRecord : SecondaryRecord → Record
 secondaryRecord p = arms (secondaryArm (p .left)) (secondaryArm (p .right))
 
 abbrev pub primaryArm : PrimaryArm → Arm
-primaryArm a = arm (a .node .0) (a .weight) (a .least) (a .greatest)
+primaryArm a = arm (a .node .0) (a .weight) (a .least) (a .greatest) (a .grades)
 
 abbrev pub primaryRecord : PrimaryRecord → Record
 primaryRecord p = arms (primaryArm (p .left)) (primaryArm (p .right))

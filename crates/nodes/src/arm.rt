@@ -8,16 +8,18 @@ ghost use Rattle.nodes.specs.Arms.{leafNumber, innerNumber, noArm, leafA
 ghost use Rattle.nodes.specs.Arms.{renamed, firstLeft};
 ghost use Rattle.nodes.specs.Values.{armValue, recordValue};
 use crate::weights;
+use table::grades;
 use table::layout;
 use table::runs;
 use table::words;
 
-// What points to a tree: its root's number, its weight, and its cell along the tree's axis. Weight 0: no tree.
+// What points to a tree: its root's number, its weight, its cell along the tree's axis, and the figure of its grades. Weight 0: no tree.
 pub struct Arm {
     pub node: u32,
     pub weight: u32,
     pub least: u32,
     pub greatest: u32,
+    pub grades: u32,
 }
 
 // The arms of an inner node's children.
@@ -74,19 +76,22 @@ impl Arm {
             weight: 0,
             least: 0,
             greatest: 0,
+            grades: 0,
         }
     }
 
-    // The leaf of slot s, at the coordinate v.
-    pub fn leaf(s: u32, v: u32) -> Arm
-        ensures { λ r. ⌜ armValue r ≡ leafArm s v ⌝ }
+    // The leaf of slot s, at the coordinate v and of that grade.
+    pub fn leaf(s: u32, v: u32, grade: u32) -> Arm
+        ensures { λ r. ⌜ armValue r ≡ leafArm s v grade ⌝ }
     {
         let node = leaf_number(s);
+        let grades = grades::of_grade(grade);
         Arm {
             node,
             weight: 1,
             least: v,
             greatest: v,
+            grades,
         }
     }
 
@@ -96,26 +101,30 @@ impl Arm {
     {
         let node = inner_number(name);
         let weight = weights::sum(l.weight, r.weight);
+        let grades = grades::join(l.grades, r.grades);
         Arm {
             node,
             weight,
             least: l.least,
             greatest: r.greatest,
+            grades,
         }
     }
 
-    // The same root with one mark more, at the coordinate v.
-    pub fn grown(self, v: u32) -> Arm
-        ensures { λ r. ⌜ armValue r ≡ grownArm (armValue self) v ⌝ }
+    // The same root with one mark more, at the coordinate v and of that grade.
+    pub fn grown(self, v: u32, grade: u32) -> Arm
+        ensures { λ r. ⌜ armValue r ≡ grownArm (armValue self) v grade ⌝ }
     {
         let weight = weights::sum(self.weight, 1);
         let least = words::lesser(self.least, v);
         let greatest = words::greater(self.greatest, v);
+        let grades = grades::join(self.grades, grades::of_grade(grade));
         Arm {
             node: self.node,
             weight,
             least,
             greatest,
+            grades,
         }
     }
 
@@ -129,6 +138,7 @@ impl Arm {
             weight: t[at + 1],
             least: t[at + 2],
             greatest: t[at + 3],
+            grades: t[at + 4],
         }
     }
 
@@ -140,6 +150,7 @@ impl Arm {
         t[at + 1] = a.weight;
         t[at + 2] = a.least;
         t[at + 3] = a.greatest;
+        t[at + 4] = a.grades;
     }
 }
 

@@ -26,12 +26,13 @@ use table::slots;
 // A node's number: 2 s for the leaf of slot s, 2 s + 1 for the inner node named s.
 pub struct Primary(pub u32);
 
-// What points to a tree: its root, its weight, and its cell along the tree's axis. Weight 0: no tree.
+// What points to a tree: its root, its weight, its cell along the tree's axis, and the figure of its grades. Weight 0: no tree.
 pub struct PrimaryArm {
     pub node: Primary,
     pub weight: u32,
     pub least: u32,
     pub greatest: u32,
+    pub grades: u32,
 }
 
 // The arms of an inner node's children.
@@ -102,6 +103,7 @@ impl PrimaryArm {
             weight: a.weight,
             least: a.least,
             greatest: a.greatest,
+            grades: a.grades,
         }
     }
 
@@ -114,6 +116,7 @@ impl PrimaryArm {
             weight: self.weight,
             least: self.least,
             greatest: self.greatest,
+            grades: self.grades,
         }
     }
 
@@ -123,11 +126,11 @@ impl PrimaryArm {
         PrimaryArm::of(Arm::none())
     }
 
-    // The leaf of slot s, at the coordinate v.
-    pub fn leaf(s: u32, v: u32) -> PrimaryArm
-        ensures { λ r. ⌜ primaryArm r ≡ leafArm s v ⌝ }
+    // The leaf of slot s, at the coordinate v and of that grade.
+    pub fn leaf(s: u32, v: u32, grade: u32) -> PrimaryArm
+        ensures { λ r. ⌜ primaryArm r ≡ leafArm s v grade ⌝ }
     {
-        PrimaryArm::of(Arm::leaf(s, v))
+        PrimaryArm::of(Arm::leaf(s, v, grade))
     }
 
     // The inner node of that name over two trees.
@@ -137,12 +140,12 @@ impl PrimaryArm {
         PrimaryArm::of(Arm::over(name, l.bare(), r.bare()))
     }
 
-    // The same root with one mark more, at the coordinate v.
-    pub fn grown(self, v: u32) -> PrimaryArm
-        ensures { λ r. ⌜ primaryArm r ≡ grownArm (primaryArm self) v ⌝ }
+    // The same root with one mark more, at the coordinate v and of that grade.
+    pub fn grown(self, v: u32, grade: u32) -> PrimaryArm
+        ensures { λ r. ⌜ primaryArm r ≡ grownArm (primaryArm self) v grade ⌝ }
     {
         let a = self.bare();
-        PrimaryArm::of(a.grown(v))
+        PrimaryArm::of(a.grown(v, grade))
     }
 
     // The arm at the word `at`, which is there; that of the main tree's root stands at layout::ROOT.

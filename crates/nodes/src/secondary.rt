@@ -25,12 +25,13 @@ use table::slots;
 // A node's number: 2 s for the leaf of slot s, 2 s + 1 for the inner node named s.
 pub struct Secondary(pub u32);
 
-// What points to a tree: its root, its weight, and its cell along the tree's axis. Weight 0: no tree.
+// What points to a tree: its root, its weight, its cell along the tree's axis, and the figure of its grades. Weight 0: no tree.
 pub struct SecondaryArm {
     pub node: Secondary,
     pub weight: u32,
     pub least: u32,
     pub greatest: u32,
+    pub grades: u32,
 }
 
 // The arms of an inner node's children.
@@ -63,6 +64,13 @@ impl Secondary {
         ensures { λ r. ⌜ r ≡ eqb (self .0 % 2) 0 ⌝ }
     {
         self.0 % 2 == 0
+    }
+
+    // Where the record of that slot stands in a level: its first word is twice an arm's words for each slot before it.
+    pub fn place(self) -> usize
+        ensures { λ r. ⌜ r ≡ recordPlace 0 (self .0 / 2) ⌝ }
+    {
+        layout::ARM * ((self.0 - self.0 % 2) as usize)
     }
 
     // A leaf's slot, or the slot that names an inner node.
@@ -109,6 +117,7 @@ impl SecondaryArm {
             weight: a.weight,
             least: a.least,
             greatest: a.greatest,
+            grades: a.grades,
         }
     }
 
@@ -121,6 +130,7 @@ impl SecondaryArm {
             weight: self.weight,
             least: self.least,
             greatest: self.greatest,
+            grades: self.grades,
         }
     }
 
@@ -130,11 +140,11 @@ impl SecondaryArm {
         SecondaryArm::of(Arm::none())
     }
 
-    // The leaf of slot s, at the coordinate v.
-    pub fn leaf(s: u32, v: u32) -> SecondaryArm
-        ensures { λ r. ⌜ secondaryArm r ≡ leafArm s v ⌝ }
+    // The leaf of slot s, at the coordinate v and of that grade.
+    pub fn leaf(s: u32, v: u32, grade: u32) -> SecondaryArm
+        ensures { λ r. ⌜ secondaryArm r ≡ leafArm s v grade ⌝ }
     {
-        SecondaryArm::of(Arm::leaf(s, v))
+        SecondaryArm::of(Arm::leaf(s, v, grade))
     }
 
     // The inner node of that name over two trees.
@@ -144,12 +154,12 @@ impl SecondaryArm {
         SecondaryArm::of(Arm::over(name, l.bare(), r.bare()))
     }
 
-    // The same root with one mark more, at the coordinate v.
-    pub fn grown(self, v: u32) -> SecondaryArm
-        ensures { λ r. ⌜ secondaryArm r ≡ grownArm (secondaryArm self) v ⌝ }
+    // The same root with one mark more, at the coordinate v and of that grade.
+    pub fn grown(self, v: u32, grade: u32) -> SecondaryArm
+        ensures { λ r. ⌜ secondaryArm r ≡ grownArm (secondaryArm self) v grade ⌝ }
     {
         let a = self.bare();
-        SecondaryArm::of(a.grown(v))
+        SecondaryArm::of(a.grown(v, grade))
     }
 
     // The arm at the word `at`, which is there.
@@ -169,12 +179,30 @@ impl SecondaryArm {
 }
 
 impl SecondaryRecord {
+    // Where the records of a level end that begin at base.
+    pub fn level_end(base: u32, capacity: u32) -> usize
+        ensures { λ r. ⌜ r ≡ levelEnd base capacity ⌝ }
+    {
+        (base as usize) + layout::RECORD * (capacity as usize)
+    }
+
     // Whether the level whose records begin at base is not all there.
     pub fn lacks_level(t: &[u32], base: u32, capacity: u32) -> bool
         ensures is { λ r. ⌜ r ≡ ltb (length (now (t .entry))) (levelEnd base capacity) ⌝ }
         ensures there { λ r. ⌜ (r ≡ false → levelEnd base capacity ≤ length (now (t .entry))) ⌝ }
     {
-        t.len() < (base as usize) + layout::RECORD * (capacity as usize)
+        t.len() < SecondaryRecord::level_end(base, capacity)
+    }
+
+    // The record at the word `at`, which is there.
+    pub fn read(t: &[u32], at: usize) -> SecondaryRecord
+        requires { ⌜ at + recordWidth ≤ length (now t) ⌝ }
+        ensures { λ r. ⌜ secondaryRecord r ≡ recordAt (now (t .entry)) at ⌝ }
+    {
+        let p = Record::load(t, at);
+        let left = SecondaryArm::of(p.left);
+        let right = SecondaryArm::of(p.right);
+        SecondaryRecord { left, right }
     }
 
     // The record of the inner node of that name, in the level whose records begin at base, which is there.
@@ -182,10 +210,7 @@ impl SecondaryRecord {
         requires { ⌜ recordPlace base name + recordWidth ≤ length (now t) ⌝ }
         ensures { λ r. ⌜ secondaryRecord r ≡ recordAt (now (t .entry)) (recordPlace base name) ⌝ }
     {
-        let p = Record::load(t, (base as usize) + layout::RECORD * (name as usize));
-        let left = SecondaryArm::of(p.left);
-        let right = SecondaryArm::of(p.right);
-        SecondaryRecord { left, right }
+        SecondaryRecord::read(t, (base as usize) + layout::RECORD * (name as usize))
     }
 
     pub fn store(t: &mut [u32], base: u32, name: u32, l: SecondaryArm, r: SecondaryArm)

@@ -12,7 +12,7 @@ use Rattle.model.specs.Sheet.{Mark, alongX}
 use Rattle.model.specs.Tree.{node, weight, depth, marks, least, evenly, build, rebuilt}
 use Rattle.model.specs.Laws.{Sorted}
 use Rattle.model.proofs.Tree.{weight-pos, weight-marks, marks-pos, build-marks}
-use Rattle.table.specs.Layout.{mainPlace, levelPlace}
+use Rattle.table.specs.Layout.{armWidth, mainPlace, levelPlace}
 use Rattle.table.specs.Limits.{deepest, noSlot}
 use Rattle.nodes.specs.Arms.{putArm}
 use Rattle.nodes.specs.Holds.{number, armOf, times, Held}
@@ -57,7 +57,7 @@ module _ {f : ℕ → Mark} {C s : ℕ} (small : C ≤ 65536) (inC : s < C) wher
     put-leaves : LeavesAt alongX f mainPlace C at xs putWords (grow f s t)
     put-leaves = main-grows small inC k deepest (omega arith) shallow .0
 
-    put-frame : TwoFrame C d (Names (grow f s t)) (λ q. 0 < times q fresh) at 4 xs putWords
+    put-frame : TwoFrame C d (Names (grow f s t)) (λ q. 0 < times q fresh) at armWidth xs putWords
     put-frame = main-frameAt (put-leaves .frame)
 
     abbrev rebuilding : After Freshly

@@ -19,7 +19,7 @@ use Rattle.model.proofs.Sizes.{D-rises}
 use Rattle.model.proofs.Depth.{balanced-depth}
 use Rattle.model.proofs.Tree.{weight-pos, rebalance-marks, rebalance-weight, rebalance-balanced}
 use Rattle.model.proofs.Rebalance.{rebalance-left, rebalance-right, rebuilt-left, rebuilt-right}
-use Rattle.table.specs.Layout.{mainPlace, auxiliaryPlace, rootPlace, levelPlace, recordPlace}
+use Rattle.table.specs.Layout.{armWidth, recordWidth, mainPlace, auxiliaryPlace, rootPlace, levelPlace, recordPlace}
 use Rattle.table.specs.Limits.{deepest, damaged}
 use Rattle.table.specs.Marks.{slotMark}
 use Rattle.nodes.specs.Arms.{Arm, Record, arms, Way, wayOf, grownArm, armAt, putArm, childAt}
@@ -56,7 +56,7 @@ module _ (f : ℕ → Mark) (C s : ℕ) (small : C ≤ 65536) (inC : s < C) wher
     here = R f .insert s i
 
     abbrev wide : Arm
-    wide = grownArm (armOf alongX f (node i l r)) (f s .x)
+    wide = grownArm (armOf alongX f (node i l r)) (f s .x) (f s .grade)
 
     abbrev widened : List ℕ
     widened = putArm xs at wide
@@ -70,7 +70,7 @@ module _ (f : ℕ → Mark) (C s : ℕ) (small : C ≤ 65536) (inC : s < C) wher
     node-named : least r < C
     node-named = k .held .main .within (least r) (omega (arith, times-node (least r) i l r, times-least r))
 
-    widened-frame : TwoFrame C d (λ q. ⊥) (λ q. ⊥) at 4 xs widened
+    widened-frame : TwoFrame C d (λ q. ⊥) (λ q. ⊥) at armWidth xs widened
     widened-frame = arm-twoFrame xs at wide
 
     widened-held : TwoFold f C d widened (node i l r)
@@ -94,7 +94,7 @@ module _ (f : ℕ → Mark) (C s : ℕ) (small : C ≤ 65536) (inC : s < C) wher
         level-frameAt (least r) (insert-names (X f) (R f) s (node i l r) (ready-new k) (least r) (names-own i l r node-apart (least r) refl)) handed-tells
         (handed-grown .frame)
 
-    handed-before : TwoFrame C d (Names (grow f s (node i l r))) (λ q. 0 < times q (grow f s (node i l r))) at 4 xs (handed .words)
+    handed-before : TwoFrame C d (Names (grow f s (node i l r))) (λ q. 0 < times q (grow f s (node i l r))) at armWidth xs (handed .words)
     handed-before = unchanged-trans (arm-twoFrame xs at wide) (twoFrame-at handed-frame)
 
     handed-is : armAt (handed .words) at ≡ armOf alongX f (grow f s (node i l r))
@@ -105,7 +105,7 @@ module _ (f : ℕ → Mark) (C s : ℕ) (small : C ≤ 65536) (inC : s < C) wher
     handed-long : length (handed .words) ≡ W C
     handed-long = handed-before .long ∙ k .long
 
-    handed-room : mainPlace (least r) + 8 ≤ length (handed .words)
+    handed-room : mainPlace (least r) + recordWidth ≤ length (handed .words)
     handed-room = two-main small handed-long .room (least r) node-named
 
     handed-marked : slotMark (handed .words) s ≡ f s
@@ -122,7 +122,7 @@ module _ (f : ℕ → Mark) (C s : ℕ) (small : C ≤ 65536) (inC : s < C) wher
     handed-right =
         beneath-two C d (least r) node-named handed-within (handed-grown .frame) f (suc d) r (omega arith) (λ q p e. p .1 e) (two-right widened-held)
 
-    handed-arms : arms (armAt (handed .words) (mainPlace (least r))) (armAt (handed .words) (mainPlace (least r) + 4))
+    handed-arms : arms (armAt (handed .words) (mainPlace (least r))) (armAt (handed .words) (mainPlace (least r) + armWidth))
         ≡ arms (armOf alongX f l) (armOf alongX f r)
     handed-arms =
         sym (record-arms (handed .words) (mainPlace (least r)))
@@ -143,7 +143,7 @@ module _ (f : ℕ → Mark) (C s : ℕ) (small : C ≤ 65536) (inC : s < C) wher
         node-once : (q : ℕ) → times q l + times q r + indicator (eqb q s) ≤ 1
         node-once q = omega (arith, ready-once inC k q, insert-times (X f) (R f) s q (node i l r), times-node q i l r)
 
-    right-ready : belowX (f s) (f (least r)) ≡ false → TwoReady f C s (suc d) (mainPlace (least r) + 4) (handed .words) r
+    right-ready : belowX (f s) (f (least r)) ≡ false → TwoReady f C s (suc d) (mainPlace (least r) + armWidth) (handed .words) r
     right-ready e = record {
       long = handed-long;
       marked = handed-marked;
@@ -151,7 +151,8 @@ module _ (f : ℕ → Mark) (C s : ℕ) (small : C ≤ 65536) (inC : s < C) wher
       held = handed-right;
       rules = rules-right f (k .rules);
       new = omega (arith, k .new, countIf-append (slotSpace f sheet .same s) (marks l) (marks r));
-      spot = child-spot (least r) (mainPlace (least r) + 4) node-named (λ q p. grown-within alongX f (R f) mainPlace C s inC r (handed-right .main) q (p .0))
+      spot =
+          child-spot (least r) (mainPlace (least r) + armWidth) node-named (λ q p. grown-within alongX f (R f) mainPlace C s inC r (handed-right .main) q (p .0))
           (λ p. p .1 (sym (insert-least (X f) (R f) s r e))) (omega arith) (omega arith);
     }
 
@@ -167,7 +168,7 @@ module _ (f : ℕ → Mark) (C s : ℕ) (small : C ≤ 65536) (inC : s < C) wher
         let apart : ((q : ℕ) → times q m + times q r ≤ 1) =
         λ q. omega (arith, ready-once inC k q, ap (timesIn q) all, times-node q here m r) in
         let arm : armOf alongX f (node here (grow f s l) r) ≡ armOf alongX f (node here m r) =
-        rw (rebalance-weight (X f) (R f) (grow f s l), least-marks m (grow f s l) same) in
+        rw (rebalance-weight (X f) (R f) (grow f s l), least-marks m (grow f s l) same, same) in
         let u : TwoLeavesAt f C d at xs (p .words) (node here m r) =
         two-way-left here m r (twoSpot-weaken (names-marks (node here m r) (grow f s (node i l r)) all) (k .spot)) apart handed-room
         (handed-is ∙ ap (armOf alongX f) g ∙ arm)
@@ -180,7 +181,7 @@ module _ (f : ℕ → Mark) (C s : ℕ) (small : C ≤ 65536) (inC : s < C) wher
         )
 
     right-grown : (p : After ℕ) → belowX (f s) (f (least r)) ≡ false → evenly l (grow f s r) ≡ true
-        → Grown f C (suc d) (mainPlace (least r) + 4) (handed .words) p (grow f s r) → Grown f C d at xs p (node here l (grow f s r))
+        → Grown f C (suc d) (mainPlace (least r) + armWidth) (handed .words) p (grow f s r) → Grown f C d at xs p (node here l (grow f s r))
     right-grown p e t h =
         let m : SlotMain = mend f (grow f s r) in
         let b = k .rules .balanced .2 in
@@ -191,16 +192,16 @@ module _ (f : ℕ → Mark) (C s : ℕ) (small : C ≤ 65536) (inC : s < C) wher
         let apart : ((q : ℕ) → times q l + times q m ≤ 1) =
         λ q. omega (arith, ready-once inC k q, ap (timesIn q) all, times-node q here l m) in
         let arm : armOf alongX f (node here l (grow f s r)) ≡ armOf alongX f (node here l m) =
-        rw (rebalance-weight (X f) (R f) (grow f s r), least-marks m (grow f s r) same, greatest-marks m (grow f s r) same) in
+        rw (rebalance-weight (X f) (R f) (grow f s r), least-marks m (grow f s r) same, greatest-marks m (grow f s r) same, same) in
         let u : TwoLeavesAt f C d at xs (p .words) (node here l m) =
         two-way-right here l m (twoSpot-weaken (names-marks (node here l m) (grow f s (node i l r)) all) (k .spot)) apart
-        (subst (λ q. mainPlace q + 8 ≤ length (handed .words)) (sym name) handed-room)
+        (subst (λ q. mainPlace q + recordWidth ≤ length (handed .words)) (sym name) handed-room)
         (handed-is ∙ ap (armOf alongX f) g ∙ arm)
         (twoFrame-weaken (omega arith) (names-marks (grow f s (node i l r)) (node here l m) (sym all)) (λ q z. subst (λ j. 0 < timesIn q j) (sym all) z)
         handed-before)
         (subst (λ q. HoldsAuxiliary f C d q (handed .words) here) (sym name) (handed-grown .holds)) handed-left (k .rules .auxiliaries .1)
         (subst (λ q. armAt (handed .words) (mainPlace q) ≡ armOf alongX f l) (sym name) (ap (λ p. p .left) handed-arms))
-        (subst (λ q. TwoLeavesAt f C (suc d) (mainPlace q + 4) (handed .words) (p .words) m) (sym name) (h .0)) in
+        (subst (λ q. TwoLeavesAt f C (suc d) (mainPlace q + armWidth) (handed .words) (p .words) m) (sym name) (h .0)) in
         let mended : mend f (node here l (grow f s r)) ≡ node here l m = rw (rebalance-right (X f) (R f) here l (grow f s r) b, t) in (
           subst (TwoLeavesAt f C d at xs (p .words)) (sym mended) u,
           rw (rebuilt-right here l (grow f s r) b, t) (h .1),
@@ -252,7 +253,7 @@ module _ (f : ℕ → Mark) (C s : ℕ) (small : C ≤ 65536) (inC : s < C) wher
             deeper-level C d small (omega (arith, most-levels C small)),
           )
 
-      way-right : evenly l (grow f s r) ≡ true → Onward false ≡ rec (levelPlace C (suc d)) (mainPlace (least r) + 4) (handed i l r k low .words)
+      way-right : evenly l (grow f s r) ≡ true → Onward false ≡ rec (levelPlace C (suc d)) (mainPlace (least r) + armWidth) (handed i l r k low .words)
       unfolding mainInsertChild wayOf childAt grow♯ insertOn
       way-right t =
           rw (
@@ -291,8 +292,8 @@ module _ (f : ℕ → Mark) (C s : ℕ) (small : C ≤ 65536) (inC : s < C) wher
         (λ u. rw (afresh-left i l r k rec u) (afresh-grown small inC k shallow fits (R f .insert s i) (grow f s l) r g u))
 
     right-way : belowX (f s) (f (least r)) ≡ false
-        → ((low : d < D C) → suc d + depth (mend f (grow f s r)) ≤ D C → Grown f C (suc d) (mainPlace (least r) + 4) (handed i l r k low .words)
-        (rec (levelPlace C (suc d)) (mainPlace (least r) + 4) (handed i l r k low .words)) (grow f s r))
+        → ((low : d < D C) → suc d + depth (mend f (grow f s r)) ≤ D C → Grown f C (suc d) (mainPlace (least r) + armWidth) (handed i l r k low .words)
+        (rec (levelPlace C (suc d)) (mainPlace (least r) + armWidth) (handed i l r k low .words)) (grow f s r))
         → Grown f C d at xs (Onward i l r k rec false) (grow f s (node i l r))
     right-way e next =
         let g : grow f s (node i l r) ≡ node (R f .insert s i) l (grow f s r) = rw e in
@@ -302,8 +303,9 @@ module _ (f : ℕ → Mark) (C s : ℕ) (small : C ≤ 65536) (inC : s < C) wher
         rw (e, rebalance-right (X f) (R f) (R f .insert s i) l (grow f s r) (k .rules .balanced .2), t) in
         let deep : d + depth (node (R f .insert s i) l (mend f (grow f s r))) ≤ D C = subst (λ u. d + depth u ≤ D C) m fits in
         let low : d < D C = omega arith in
-        rw (way-right i l r k rec low t) (subst (Grown f C d at xs (rec (levelPlace C (suc d)) (mainPlace (least r) + 4) (handed i l r k low .words))) (sym g)
-        (right-grown i l r k low (rec (levelPlace C (suc d)) (mainPlace (least r) + 4) (handed i l r k low .words)) e t (next low (omega arith)))))
+        rw (way-right i l r k rec low t)
+        (subst (Grown f C d at xs (rec (levelPlace C (suc d)) (mainPlace (least r) + armWidth) (handed i l r k low .words))) (sym g)
+        (right-grown i l r k low (rec (levelPlace C (suc d)) (mainPlace (least r) + armWidth) (handed i l r k low .words)) e t (next low (omega arith)))))
         (λ u. rw (afresh-right i l r k rec u) (afresh-grown small inC k shallow fits (R f .insert s i) l (grow f s r) g u))
 
   -- THE INSERTION beneath an arm
@@ -326,7 +328,8 @@ module _ (f : ℕ → Mark) (C s : ℕ) (small : C ≤ 65536) (inC : s < C) wher
       insertBeneath-holds fuel l (suc d) (mainPlace (least r)) (handed i l r k low .words) (left-ready i l r k low) h (omega arith) (omega arith))))
       (λ e. subst (λ b. Grown f C d at xs (Onward i l r k rec b) (grow f s (node i l r))) (sym e)
       (right-way i l r k rec shallow fits e (λ low h.
-      insertBeneath-holds fuel r (suc d) (mainPlace (least r) + 4) (handed i l r k low .words) (right-ready i l r k low e) h (omega arith) (omega arith)))))
+      insertBeneath-holds fuel r (suc d) (mainPlace (least r) + armWidth) (handed i l r k low .words) (right-ready i l r k low e) h (omega arith)
+      (omega arith)))))
 
 -- THE INSERTION: the tree of the root
 module _ (f : ℕ → Mark) (C s : ℕ) (small : C ≤ 65536) (inC : s < C) (xs : List ℕ) (long : length xs ≡ W C) (marked : slotMark xs s ≡ f s) where
@@ -366,13 +369,14 @@ module _ (f : ℕ → Mark) (C s : ℕ) (small : C ≤ 65536) (inC : s < C) (xs 
       → let p = mainInsert♯ C (f s) s xs in TwoLeavesAt f C 0 rootPlace xs (p .words) (leaf s) × (p .out ≡ 0)
   unfolding mainInsert♯ insertRoot
   mainInsert-first e =
-      let room : rootPlace + 4 ≤ length xs = omega (arith, two-main small long .runRoom) in
+      let room : rootPlace + armWidth ≤ length xs = omega (arith, two-main small long .runRoom) in
       let a : Arm = armOf {I = SlotAuxiliary} alongX f (leaf s) in
-      let frame : TwoFrame C 0 (Names {I = SlotAuxiliary} (leaf s)) (λ q. 0 < times {I = SlotAuxiliary} q (leaf s)) rootPlace 4 xs (putArm xs rootPlace a) =
+      let frame : TwoFrame C 0 (Names {I = SlotAuxiliary} (leaf s)) (λ q. 0 < times {I = SlotAuxiliary} q (leaf s)) rootPlace armWidth xs
+      (putArm xs rootPlace a) =
       arm-twoFrame xs rootPlace a in
-      let b : TwoFrame C 0 (λ q. ⊥) (λ q. ⊥) rootPlace 4 xs (putArm xs rootPlace a) = arm-twoFrame xs rootPlace a in
+      let b : TwoFrame C 0 (λ q. ⊥) (λ q. ⊥) rootPlace armWidth xs (putArm xs rootPlace a) = arm-twoFrame xs rootPlace a in
       let kept : slotMark (putArm xs rootPlace a) s ≡ f s = kept-mark (λ q p. absurd p) (clear-spot (root-spot {P = λ q. ⊥})) b s inC ∙ marked in
-      rw (eq-eqb (armAt xs rootPlace .weight) 0 e, leafArm-of s (f s .x) (omega arith)) (
+      rw (eq-eqb (armAt xs rootPlace .weight) 0 e, leafArm-of f s (f s .x) (omega arith)) (
         record {
           is = putArm-same xs rootPlace a room;
           held = record { main = leaf-held alongX f (slotAuxiliary f) mainPlace C s inC (putArm xs rootPlace a) kept; auxiliaries = tt };

@@ -12,7 +12,7 @@ use Rattle.model.specs.Sheet.{Mark, belowX, alongX, alongY}
 use Rattle.model.specs.Tree.{leaf, node}
 use Rattle.model.specs.Laws.{nil, sorted[], sorted∷}
 use Rattle.model.proofs.Logic.{by-cases}
-use Rattle.table.specs.Layout.{mainPlace, auxiliaryPlace, runPlace, levelPlace, recordPlace}
+use Rattle.table.specs.Layout.{armWidth, mainPlace, auxiliaryPlace, runPlace, levelPlace, recordPlace}
 use Rattle.table.specs.Marks.{slotMark}
 use Rattle.nodes.specs.Arms.{Arm, putArm}
 use Rattle.nodes.specs.Holds.{armOf, timesIn, times}
@@ -64,7 +64,7 @@ module _ {f : ℕ → Mark} {C s : ℕ} (small : C ≤ 65536) (inC : s < C) wher
     pair-long : length ys ≡ W C
     pair-long = h .frame .long ∙ k .long
 
-    pair-room : auxiliaryPlace b + 4 ≤ length ys
+    pair-room : auxiliaryPlace b + armWidth ≤ length ys
     pair-room = omega (arith, pair-named, two-main small pair-long .runRoom)
 
     -- the arm of q alone
@@ -119,7 +119,7 @@ module _ {f : ℕ → Mark} {C s : ℕ} (small : C ≤ 65536) (inC : s < C) wher
 
     pair-words : pairAuxiliary C (f s) s (levelPlace C d) b q ys ≡ paired
     unfolding pairAuxiliary
-    pair-words = rw (pair-marked q has-leaf, leafArm-of q (f q .y) (omega (arith, pair-within q has-leaf)))
+    pair-words = rw (pair-marked q has-leaf, leafArm-of f q (f q .y) (omega (arith, pair-within q has-leaf)))
 
     pair-holds : Grown f C d at xs (pairAuxiliary C (f s) s (levelPlace C d) b q ys) pair
     pair-holds = rw pair-words (pair-leaves, pair-figure)

@@ -12,8 +12,8 @@ use Rattle.model.specs.Sizes.{W}
 use Rattle.model.specs.Sheet.{Mark, Box, sheet, alongX}
 use Rattle.model.specs.Slots.{slotSpace, slotAxis}
 use Rattle.model.specs.Tree.{depth, marks, insertLeaf, rebalance, rebuilt}
-use Rattle.model.proofs.Orders.{same-sound, alongX-laws}
-use Rattle.table.specs.Layout.{mainPlace}
+use Rattle.model.proofs.Orders.{alongX-laws}
+use Rattle.table.specs.Layout.{armWidth, mainPlace}
 use Rattle.table.specs.Marks.{slotMark}
 use Rattle.nodes.specs.Arms.{armAt}
 use Rattle.nodes.specs.Holds.{armOf, times}
@@ -58,7 +58,7 @@ abbrev pub Grown : (ℕ → Mark) → ℕ → ℕ → ℕ → List ℕ → After
 Grown f C d at xs p t = TwoLeavesAt f C d at xs (p .words) (mend f t) × (p .out ≡ rebuilt t)
 
 pub byX : ByCoordinate alongX
-byX = axis-coordinate alongX-laws same-sound
+byX = axis-coordinate alongX-laws
 
 -- a spot of a two-fold tree's arm is one of the main tree's
 main-spot : {C n at : ℕ} {P : ℕ → Type 0} → Region mainPlace C n → TwoSpot C P at → Spot mainPlace C P at n
@@ -77,7 +77,7 @@ module _ {f : ℕ → Mark} {C s : ℕ} (small : C ≤ 65536) {d at : ℕ} {xs :
   ready-region : Region mainPlace C (length xs)
   ready-region = two-main small (k .long)
 
-  pub ready-room : at + 4 ≤ length xs
+  pub ready-room : at + armWidth ≤ length xs
   ready-room = omega (arith, k .spot .low, ready-region .runRoom)
 
 module _ {f : ℕ → Mark} {C s : ℕ} (inC : s < C) {d at : ℕ} {xs : List ℕ} {t : SlotMain} (k : TwoReady f C s d at xs t) where
@@ -88,7 +88,8 @@ module _ {f : ℕ → Mark} {C s : ℕ} (inC : s < C) {d at : ℕ} {xs : List �
   ready-once q = omega (arith, grown-once alongX f (R f) mainPlace C s inC t (k .held .main) (ready-new k) q, insert-times (X f) (R f) s q t)
 
 -- the slot put into the main tree alone
-pub main-grows : {f : ℕ → Mark} {C s : ℕ} → C ≤ 65536 → s < C → {d at : ℕ} {xs : List ℕ} {t : SlotMain} → TwoReady f C s d at xs t → (fuel : ℕ)
+pub main-grows : {f : ℕ → Mark} {C s : ℕ} → C ≤ 65536 → s < C → {d at : ℕ} {xs : List ℕ} {t : SlotMain} → TwoReady f C s d at xs t
+    → (fuel : ℕ)
     → depth t < fuel → depth t + 1 < 40
     → LeavesAt alongX f mainPlace C at xs (insert♯ alongX fuel C mainPlace (f s) s false at xs .words) (grow f s t)
     × (insert♯ alongX fuel C mainPlace (f s) s false at xs .out ≡ 0)

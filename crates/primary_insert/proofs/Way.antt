@@ -14,7 +14,7 @@ use Rattle.model.specs.Sizes.{D, W}
 use Rattle.model.specs.Sheet.{Mark, sheet, alongX, alongY}
 use Rattle.model.specs.Slots.{slotSpace, slotAxis}
 use Rattle.model.specs.Laws.{SameBag, Sorted}
-use Rattle.table.specs.Layout.{mainPlace, auxiliaryPlace, runPlace, levelPlace, recordPlace}
+use Rattle.table.specs.Layout.{armWidth, recordWidth, nodeWidth, mainPlace, auxiliaryPlace, runPlace, levelPlace, recordPlace}
 use Rattle.table.specs.Limits.{damaged}
 use Rattle.table.specs.Marks.{slotMark}
 use Rattle.nodes.specs.Arms.{Arm, arms, armAt, putArm}
@@ -37,15 +37,16 @@ use Rattle.secondary_update.proofs.Auxiliaries.{carried, auxiliary-insert}
 pub arm-kept : {f : ℕ → Mark} {C at e : ℕ} {P : ℕ → Type 0} (zs : List ℕ) (a : Arm) (t : SlotMain) → TwoSpot C P at
     → ((s : ℕ) → Names t s → P s) → AuxiliariesOf f t → TwoFold f C e zs t → TwoFold f C e (putArm zs at a) t
 arm-kept {C = C} {at = at} {e = e} zs a t spot w of h =
-    let b : TwoFrame C 0 (λ s. ⊥) (λ s. ⊥) at 4 zs (putArm zs at a) = arm-twoFrame zs at a in
+    let b : TwoFrame C 0 (λ s. ⊥) (λ s. ⊥) at armWidth zs (putArm zs at a) = arm-twoFrame zs at a in
     kept-two (λ s p. absurd p) (clear-spot spot) b e t (λ q k. absurd k) (λ s p. absurd p) (λ s k. absurd k) of
-    (λ s k. apart-sym (mainPlace s) 12 at 4 (spot .offNodes s (w s k))) h
+    (λ s k. apart-sym (mainPlace s) nodeWidth at armWidth (spot .offNodes s (w s k))) h
 
 -- the arm of a tree put at its spot
-pub put-two : {f : ℕ → Mark} {C d at : ℕ} {xs ys zs : List ℕ} {a : Arm} (t : SlotMain) → at + 4 ≤ length xs → TwoSpot C (Names t) at → AuxiliariesOf f t
-    → TwoFrame C d (Names t) (λ q. 0 < times q t) at 4 xs ys → TwoLeaves f C d ys a zs t → TwoLeavesAt f C d at xs (putArm zs at a) t
+pub put-two : {f : ℕ → Mark} {C d at : ℕ} {xs ys zs : List ℕ} {a : Arm} (t : SlotMain) → at + armWidth ≤ length xs
+    → TwoSpot C (Names t) at → AuxiliariesOf f t
+    → TwoFrame C d (Names t) (λ q. 0 < times q t) at armWidth xs ys → TwoLeaves f C d ys a zs t → TwoLeavesAt f C d at xs (putArm zs at a) t
 put-two {at = at} {zs = zs} {a = a} t room spot of b h =
-    let fits : at + 4 ≤ length zs = omega (arith, h .frame .long, b .long) in
+    let fits : at + armWidth ≤ length zs = omega (arith, h .frame .long, b .long) in
     record {
       is = putArm-same zs at a fits ∙ h .is;
       held = arm-kept zs a t spot (λ s k. k) of (h .held);
@@ -59,7 +60,8 @@ pub record AuxiliaryGrown (f : ℕ → Mark) (C s d name : ℕ) (ys : List ℕ) 
   pub figure : p .out ≡ insertRebuilt (slotAxis f alongY) (carried f) s o
   pub sound : p .out ≡ damaged → ⊥
 
-module _ (f : ℕ → Mark) (C s d name : ℕ) (ys l : List ℕ) (small : C ≤ 65536) (inC : s < C) (low : d < D C) (named : name < C) (long : length ys ≡ W C)
+module _ (f : ℕ → Mark) (C s d name : ℕ) (ys l : List ℕ) (small : C ≤ 65536) (inC : s < C) (low : d < D C) (named : name < C)
+    (long : length ys ≡ W C)
     (marked : slotMark ys s ≡ f s) (new : countIf (slotSpace f sheet .same s) l ≡ 0) where
   abbrev grownWords : After ℕ
   grownWords = auxiliaryInsert♯ (levelPlace C d) C (f s) s name ys
@@ -88,18 +90,20 @@ module _ (f : ℕ → Mark) (C s d name : ℕ) (ys l : List ℕ) (small : C ≤ 
 
 -- THE WAY DOWN: the arm of a node over l and r stands at its spot, and then one child is changed, its arm standing in the node's record
 module _ {f : ℕ → Mark} {C d at : ℕ} (i : SlotAuxiliary) (l r : SlotMain) (spot : TwoSpot C (Names (node i l r)) at)
-    (apart : (s : ℕ) → times s l + times s r ≤ 1) {xs zs ws : List ℕ} (room : mainPlace (least r) + 8 ≤ length zs)
+    (apart : (s : ℕ) → times s l + times s r ≤ 1) {xs zs ws : List ℕ} (room : mainPlace (least r) + recordWidth ≤ length zs)
     (is : armAt zs at ≡ armOf alongX f (node i l r))
-    (before : TwoFrame C d (Names (node i l r)) (λ q. 0 < times q (node i l r)) at 4 xs zs) (aux : HoldsAuxiliary f C d (least r) zs i) where
+    (before : TwoFrame C d (Names (node i l r)) (λ q. 0 < times q (node i l r)) at armWidth xs zs) (aux : HoldsAuxiliary f C d (least r) zs i) where
   two-way : (u : SlotMain) (other : ℕ) → ((s : ℕ) → Names u s → Names (node i l r) s) → ((s : ℕ) → 0 < times s u → 0 < times s (node i l r))
-      → (Names u (least r) → ⊥) → mainPlace (least r) ≤ other → other + 4 ≤ mainPlace (least r) + 8 → least r < C → ((s : ℕ) → 0 < times s u → s < C)
-      → TwoFrame C (suc d) (Names u) (λ q. 0 < times q u) other 4 zs ws → TwoFold f C (suc d) ws l → TwoFold f C (suc d) ws r
-      → armAt ws (mainPlace (least r)) ≡ armOf alongX f l → armAt ws (mainPlace (least r) + 4) ≡ armOf alongX f r → TwoLeavesAt f C d at xs ws (node i l r)
+      → (Names u (least r) → ⊥) → mainPlace (least r) ≤ other → other + armWidth ≤ mainPlace (least r) + recordWidth → least r < C
+      → ((s : ℕ) → 0 < times s u → s < C)
+      → TwoFrame C (suc d) (Names u) (λ q. 0 < times q u) other armWidth zs ws → TwoFold f C (suc d) ws l → TwoFold f C (suc d) ws r
+      → armAt ws (mainPlace (least r)) ≡ armOf alongX f l → armAt ws (mainPlace (least r) + armWidth) ≡ armOf alongX f r
+      → TwoLeavesAt f C d at xs ws (node i l r)
   two-way u other w v out low high inC within a hl hr el er =
       let name = least r in
       let inP : ((s : ℕ) → Names u s → s < C) = λ s k. within s (k .0) in
-      let clear : Clear C other 4 = clear-spot (child-spot {P = Names u} name other inC inP out low high) in
-      let fits : mainPlace name + 8 ≤ length ws = omega (arith, a .long) in
+      let clear : Clear C other armWidth = clear-spot (child-spot {P = Names u} name other inC inP out low high) in
+      let fits : mainPlace name + recordWidth ≤ length ws = omega (arith, a .long) in
       record {
         is = kept-arm inP clear a at (twoSpot-weaken w spot) (λ k. omega (arith, spot .offNodes name (names-own i l r apart name refl) (omega arith))) ∙ is;
         held = two-over i l r (record-arms ws (mainPlace name) ∙ ap₂ arms el er)
@@ -111,7 +115,7 @@ module _ {f : ℕ → Mark} {C d at : ℕ} (i : SlotAuxiliary) (l r : SlotMain) 
       tells s (inl k) = w s k
       tells s (inr e) = names-own i l r apart s e
 
-  pub two-way-left : TwoFold f C (suc d) zs r → AuxiliariesOf f r → armAt zs (mainPlace (least r) + 4) ≡ armOf alongX f r
+  pub two-way-left : TwoFold f C (suc d) zs r → AuxiliariesOf f r → armAt zs (mainPlace (least r) + armWidth) ≡ armOf alongX f r
       → TwoLeavesAt f C (suc d) (mainPlace (least r)) zs ws l → TwoLeavesAt f C d at xs ws (node i l r)
   two-way-left hr of er h =
       let name = least r in
@@ -119,24 +123,26 @@ module _ {f : ℕ → Mark} {C d at : ℕ} (i : SlotAuxiliary) (l r : SlotMain) 
       let within : ((s : ℕ) → 0 < times s l → s < C) = h .held .main .within in
       let inP : ((s : ℕ) → Names l s → s < C) = λ s k. within s (k .0) in
       let out : (Names l name → ⊥) = λ k. omega (arith, k .0, apart name, times-least r) in
-      let clear : Clear C (mainPlace name) 4 = clear-spot (child-spot {P = Names l} name (mainPlace name) inC inP out (omega arith) (omega arith)) in
-      let right = child-spot {P = Names l} name (mainPlace name + 4) inC inP out (omega arith) (omega arith) in
+      let clear : Clear C (mainPlace name) armWidth = clear-spot (child-spot {P = Names l} name (mainPlace name) inC inP out (omega arith) (omega arith)) in
+      let right = child-spot {P = Names l} name (mainPlace name + armWidth) inC inP out (omega arith) (omega arith) in
       two-way l (mainPlace name) (names-left i l r) (λ s k. omega (arith, times-node s i l r)) out (omega arith) (omega arith) inC within (h .frame) (h .held)
       (kept-two inP clear (h .frame) (suc d) r within (λ s k. inl (omega (arith, k .0, apart s))) (λ s k. omega (arith, apart s)) of
       (λ s k. omega (arith, k .1)) hr)
-      (h .is) (kept-arm inP clear (h .frame) (mainPlace name + 4) right (omega arith) ∙ er)
+      (h .is) (kept-arm inP clear (h .frame) (mainPlace name + armWidth) right (omega arith) ∙ er)
 
   pub two-way-right : TwoFold f C (suc d) zs l → AuxiliariesOf f l → armAt zs (mainPlace (least r)) ≡ armOf alongX f l
-      → TwoLeavesAt f C (suc d) (mainPlace (least r) + 4) zs ws r → TwoLeavesAt f C d at xs ws (node i l r)
+      → TwoLeavesAt f C (suc d) (mainPlace (least r) + armWidth) zs ws r → TwoLeavesAt f C d at xs ws (node i l r)
   two-way-right hl of el h =
       let name = least r in
       let inC : name < C = held-least (h .held .main) in
       let within : ((s : ℕ) → 0 < times s r → s < C) = h .held .main .within in
       let inP : ((s : ℕ) → Names r s → s < C) = λ s k. within s (k .0) in
       let out : (Names r name → ⊥) = λ k. k .1 refl in
-      let clear : Clear C (mainPlace name + 4) 4 = clear-spot (child-spot {P = Names r} name (mainPlace name + 4) inC inP out (omega arith) (omega arith)) in
+      let clear : Clear C (mainPlace name + armWidth) armWidth =
+      clear-spot (child-spot {P = Names r} name (mainPlace name + armWidth) inC inP out (omega arith) (omega arith)) in
       let left = child-spot {P = Names r} name (mainPlace name) inC inP out (omega arith) (omega arith) in
-      two-way r (mainPlace name + 4) (λ s k. names-right i l r apart s (k .0)) (λ s k. omega (arith, times-node s i l r)) out (omega arith) (omega arith) inC
+      two-way r (mainPlace name + armWidth) (λ s k. names-right i l r apart s (k .0)) (λ s k. omega (arith, times-node s i l r)) out
+      (omega arith) (omega arith) inC
       within (h .frame)
       (kept-two inP clear (h .frame) (suc d) l within (λ s k. inl (omega (arith, k .0, apart s))) (λ s k. omega (arith, apart s)) of
       (λ s k. omega (arith, other s k)) hl)

@@ -30,7 +30,7 @@ splitName m s q xs = if belowX m (slotMark xs (q .node / 2)) then q .node / 2 el
 -- the auxiliary tree of that node: the leaf's slot k alone, and then the mark's slot too
 unfoldable pub pairAuxiliary : ℕ → Mark → ℕ → ℕ → ℕ → ℕ → List ℕ → After ℕ
 pairAuxiliary capacity m s base name k xs =
-    auxiliaryInsert♯ base capacity m s name (putArm xs (auxiliaryPlace name) (leafArm k (slotMark xs k .y)))
+    auxiliaryInsert♯ base capacity m s name (putArm xs (auxiliaryPlace name) (leafArm k (slotMark xs k .y) (slotMark xs k .grade)))
 
 unfoldable pub mainLeaf♯ : ℕ → Mark → ℕ → ℕ → ℕ → Arm → List ℕ → After ℕ
 mainLeaf♯ capacity m s base at q xs = pairAuxiliary capacity m s base (splitName m s q xs) (q .node / 2) (split♯ alongX mainPlace m s at q xs)
@@ -54,7 +54,7 @@ MainInsertion = ℕ → ℕ → List ℕ → After ℕ
 
 -- the mark goes into the arm that leads to a node on its way, and into the node's auxiliary tree
 unfoldable pub grow♯ : ℕ → Mark → ℕ → ℕ → ℕ → ℕ → Arm → List ℕ → After ℕ
-grow♯ capacity m s base name at a xs = auxiliaryInsert♯ base capacity m s name (putArm xs at (grownArm a (m .x)))
+grow♯ capacity m s base name at a xs = auxiliaryInsert♯ base capacity m s name (putArm xs at (grownArm a (m .x) (m .grade)))
 
 -- on to the child, where the auxiliary tree was not damaged
 unfoldable pub insertOn : MainInsertion → ℕ → ℕ → After ℕ → After ℕ
@@ -98,7 +98,8 @@ insertBeneath♯-suc (suc f) h capacity m s base at xs = let e : suc f - 1 ≡ f
 
 unfoldable pub insertRoot : Mark → ℕ → ℕ → Arm → List ℕ → After ℕ
 insertRoot m s capacity a xs =
-    if eqb (a .weight) 0 then after 0 (putArm xs rootPlace (leafArm s (m .x))) else insertBeneath♯ deepest capacity m s (topLevel capacity) rootPlace xs
+    if eqb (a .weight) 0 then after 0 (putArm xs rootPlace (leafArm s (m .x) (m .grade)))
+    else insertBeneath♯ deepest capacity m s (topLevel capacity) rootPlace xs
 
 unfoldable pub mainInsert♯ : ℕ → Mark → ℕ → List ℕ → After ℕ
 mainInsert♯ capacity m s xs = insertRoot m s capacity (armAt xs rootPlace) xs

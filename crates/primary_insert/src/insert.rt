@@ -35,7 +35,7 @@ fn insert_at_leaf(
     let node = q.node;
     let k = node.slot();
     let other = slots::load(t, k);
-    PrimaryRecord::store_auxiliary(t, name, SecondaryArm::leaf(k, other.y));
+    PrimaryRecord::store_auxiliary(t, name, SecondaryArm::leaf(k, other.y, other.grade));
     secondary_update::insert::insert(t, base, capacity, name, m, s)
 }
 
@@ -53,7 +53,7 @@ fn grow(
     requires { ⌜ (name < capacity) × Stands capacity s at (now t) ⌝ }
     ensures { λ r. ⌜ after r (now (t .exit)) ≡ grow♯ capacity (markValue m) s base name at (primaryArm a) (now (t .entry)) ⌝ }
 {
-    PrimaryArm::store(t, at, a.grown(m.x));
+    PrimaryArm::store(t, at, a.grown(m.x, m.grade));
     secondary_update::insert::insert(t, base, capacity, name, m, s)
 }
 
@@ -135,7 +135,7 @@ pub fn insert(t: &mut [u32], capacity: u32, m: Mark, s: u32) -> u32
 {
     let root = PrimaryArm::load(t, layout::ROOT);
     if root.weight == 0 {
-        PrimaryArm::store(t, layout::ROOT, PrimaryArm::leaf(s, m.x));
+        PrimaryArm::store(t, layout::ROOT, PrimaryArm::leaf(s, m.x, m.grade));
         return 0;
     }
     insert_beneath(

@@ -24,7 +24,7 @@ pub fn split(t: &mut [u32], capacity: u32, at: usize, q: PrimaryArm, m: Mark, s:
     ensures slot { λ r. ⌜ r < capacity ⌝ }
     ensures words { λ _. ⌜ now (t .exit) ≡ split♯ alongX mainPlace (markValue m) s at (primaryArm q) (now (t .entry)) ⌝ }
 {
-    let new = PrimaryArm::leaf(s, m.x);
+    let new = PrimaryArm::leaf(s, m.x, m.grade);
     let node = q.node;
     let name = node.slot();
     if m.below_x(slots::load(t, name)) {
@@ -60,7 +60,7 @@ pub fn put(t: &mut [u32], capacity: u32, start: usize, m: Mark, s: u32) -> u32
         if weights::disagree(fork.child, fork.sibling, a.weight) {
             return limits::DAMAGED;
         }
-        PrimaryArm::store(t, at, a.grown(m.x));
+        PrimaryArm::store(t, at, a.grown(m.x, m.grade));
         at = PrimaryRecord::child(name, fork.left);
     }
     limits::DAMAGED

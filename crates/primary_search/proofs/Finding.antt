@@ -1,7 +1,7 @@
 -- On words that hold a main tree, the mirror of the finding gives the slot of a mark that stands there, and `absent` for one that does not. Assumes
 -- nothing.
 use Prim.Native.Nat.{ℕ, zero, suc, _+_, _*_, _/_, _%_, _<_}
-use mathlib.Core.Path.{_≡_, _∙_}
+use mathlib.Core.Path.{_≡_, refl, _∙_}
 use mathlib.Core.Bool.{true, false}
 use mathlib.Core.List.{List, _++_}
 use native.Mathlib.Omega.{arith}
@@ -15,7 +15,7 @@ use Rattle.model.specs.Slots.{slotSpace, slotAxis}
 use Rattle.model.specs.Laws.{Sorted}
 use Rattle.model.proofs.Logic.{by-cases, clash, not-true-false}
 use Rattle.model.proofs.Lists.{all-map, countIf-append, countIf-none}
-use Rattle.model.proofs.Sorted.{sorted-left, sorted-right}
+use Rattle.model.proofs.Sorted.{below-alike, sorted-left, sorted-right}
 use Rattle.model.proofs.Orders.{sheet-sameness, alongX-laws}
 use Rattle.model.proofs.Slots.{slotSpace-sameness, slotAxis-laws}
 use Rattle.model.proofs.Tree.{weight-pos, all-above, left-all-below}
@@ -26,7 +26,25 @@ use Rattle.nodes.specs.Holds.{number, armOf, times, Held}
 use Rattle.nodes.proofs.Held.{times-node, times-least, held-least, held-left, held-right}
 use Rattle.twofold_layout.specs.Rules.{SlotAuxiliary, SlotMain}
 use Rattle.primary_search.specs.Find.{findLeaf, findNode, findBeneath♯, findRoot, find♯}
-use Rattle.table.specs.Limits.{absent}
+use Rattle.table.specs.Limits.{deepest, absent}
+
+-- the finding goes by sameness and the order alone: marks that are the same are found alike
+module _ (m q : Mark) (e : same m q ≡ true) (xs : List ℕ) where
+  beneath-alike : (fuel C n : ℕ) → findBeneath♯ fuel xs C m n ≡ findBeneath♯ fuel xs C q n
+  unfolding findBeneath♯ findNode findLeaf
+  beneath-alike zero C n = refl
+  beneath-alike (suc fuel) C n =
+      let p = recordAt xs (mainPlace (n / 2)) in
+      rw (
+        sheet-sameness .alike m q e,
+        below-alike sheet-sameness alongX-laws m q (slotMark xs (n / 2)) e,
+        beneath-alike fuel C (p .left .node),
+        beneath-alike fuel C (p .right .node),
+      )
+
+  pub find-alike : find♯ xs m ≡ find♯ xs q
+  unfolding find♯ findRoot
+  find-alike = rw (beneath-alike deepest (getD xs capacityPlace 0) (armAt xs rootPlace .node))
 
 pub find-none : (xs : List ℕ) (m : Mark) → armAt xs rootPlace .weight ≡ 0 → find♯ xs m ≡ absent
 unfolding find♯ findRoot
@@ -109,8 +127,10 @@ module _ (f : ℕ → Mark) (C : ℕ) (xs : List ℕ) where
     unfolding find♯ findRoot
     find-root m = rw (root, ne-eqb (weight t) 0 (omega (arith, weight-pos t)), capacity)
 
-    pub find-holds : Held alongX f mainPlace C xs t → Sorted (slotAxis f alongX) (marks t) → depth t < 40 → (s : ℕ) → 0 < times s t → find♯ xs (f s) ≡ s
+    pub find-holds : Held alongX f mainPlace C xs t → Sorted (slotAxis f alongX) (marks t) → depth t < 40 → (s : ℕ) → 0 < times s t
+        → find♯ xs (f s) ≡ s
     find-holds h o d s k = find-root (f s) ∙ found-beneath s 40 t d h o k
 
-    pub find-absent : Held alongX f mainPlace C xs t → depth t < 40 → (m : Mark) → countIf (λ s. same m (f s)) (marks t) ≡ 0 → find♯ xs m ≡ absent
+    pub find-absent : Held alongX f mainPlace C xs t → depth t < 40 → (m : Mark) → countIf (λ s. same m (f s)) (marks t) ≡ 0
+        → find♯ xs m ≡ absent
     find-absent h d m k = find-root m ∙ absent-beneath m 40 t d h k

@@ -21,7 +21,7 @@ use Rattle.model.specs.Laws.{SameBag}
 use Rattle.model.proofs.Logic.{by-cases}
 use Rattle.model.proofs.Lists.{countIf-append}
 use Rattle.model.proofs.Tree.{weight-pos}
-use Rattle.table.specs.Layout.{capacityPlace, rootPlace, levelPlace, listPlace, levelEnd}
+use Rattle.table.specs.Layout.{markWidth, capacityPlace, rootPlace, levelPlace, listPlace, levelEnd}
 use Rattle.table.specs.Marks.{slotMark, putMark, markWords}
 use Rattle.nodes.specs.Arms.{armAt}
 use Rattle.nodes.specs.Holds.{armOf}
@@ -32,7 +32,8 @@ use Rattle.table.proofs.Tallies.{visited-pack, pack-visits, pack-found}
 use Rattle.twofold_layout.specs.Rules.{SlotAuxiliary, SlotMain, slotAuxiliary, slotMain, AuxiliaryOf, AuxiliariesOf, ByRules}
 use Rattle.twofold_layout.specs.TwoFold.{TwoFold}
 use Rattle.secondary_search.proofs.Listing.{written, written-append, met, met-listed, carriesBag-carries, list-holds}
-use Rattle.primary_search.specs.List.{listMark, listLeaf♯, listOver♯, listChildren, listInner, stops, listArm, listBeneath♯, listRoot, mainList♯}
+use Rattle.primary_search.specs.List.{listMark, listLeaf♯, listOver♯, listChildren, listInner, stops, listArm, listBeneath♯, listRoot}
+use Rattle.primary_search.specs.List.{mainList♯}
 use Rattle.twofold_layout.proofs.Over.{deeper-level, top-level}
 use Rattle.primary_search.proofs.Ready.{ReadyNode, Ready, inside-settled, ready}
 
@@ -93,7 +94,7 @@ module _ (f : ℕ → Mark) (b : Box) where
         (λ t.
         let room = (rw t at hy) in
         let more = (rw t at hk) in
-        rw (e, t, visited-pack k v 1 (omega arith) (omega arith), pack-found k v (omega arith), le-leb (listPlace k + 3) (length ys) (omega arith)))
+        rw (e, t, visited-pack k v 1 (omega arith) (omega arith), pack-found k v (omega arith), le-leb (listPlace k + markWidth) (length ys) (omega arith)))
         (λ t. rw (e, t, visited-pack k v 0 (omega arith) (omega arith)))
 
     list-leaf : (n base s : ℕ) → s < C → slotMark xs s ≡ f s
@@ -151,7 +152,8 @@ module _ (f : ℕ → Mark) (b : Box) where
       unfolding listInner
       list-clear t u = list-node 0 [] (λ k v ys hv hk hy. let z : k + 0 ≡ k = omega arith in rw (t, u, z))
 
-      list-open : (ml mr : List ℕ) (wl wr : ℕ) → inside (slotAxis f alongX) b (node i l r) ≡ false → clear (slotAxis f alongX) b (node i l r) ≡ false
+      list-open : (ml mr : List ℕ) (wl wr : ℕ) → inside (slotAxis f alongX) b (node i l r) ≡ false
+          → clear (slotAxis f alongX) b (node i l r) ≡ false
           → C ≤ 65536 → d < 40
           → Writes (listBeneath♯ n xs C b most (levelPlace C (suc d)) (armOf alongX f l)) ml wl
           → Writes (listBeneath♯ n xs C b most (levelPlace C (suc d)) (armOf alongX f r)) mr wr

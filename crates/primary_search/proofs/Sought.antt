@@ -84,24 +84,24 @@ module _ (xs : List ℕ) (m : Mark) where
   finds-not-lacks a (none e) = a .some e
   finds-not-lacks a (other {s = s} k way f) = clash (subst (λ s. same m (slotMark xs s) ≡ true) (leads-once refl (a .leads) way) (a .has)) f
 
-  -- no slot is one of the two values
-  module _ (small : C < absent) where
-    came-found : {r : ℕ} → armAt xs rootPlace .weight ≢ 0 → Came (armAt xs rootPlace .node) r → r ≢ damaged → r ≢ absent → Finds xs m r
-    came-found some lost d a = absurd (d refl)
-    came-found some (found below way t) d a = record { some = some; leads = way; has = t }
-    came-found some (missed way f) d a = absurd (a refl)
+  came-found : {r : ℕ} → armAt xs rootPlace .weight ≢ 0 → Came (armAt xs rootPlace .node) r → r ≢ damaged → r ≢ absent → Finds xs m r
+  came-found some lost d a = absurd (d refl)
+  came-found some (found below way t) d a = record { some = some; leads = way; has = t }
+  came-found some (missed way f) d a = absurd (a refl)
 
+  pub find-finds : find♯ xs m ≢ damaged → find♯ xs m ≢ absent → Finds xs m (find♯ xs m)
+  unfolding find♯ findRoot
+  find-finds d a =
+      by-cases (eqb (armAt xs rootPlace .weight) 0)
+      (λ t. absurd (a (rw t)))
+      (λ f. rw f (came-found (eqb-false (armAt xs rootPlace .weight) 0 f) (came deepest (armAt xs rootPlace .node)) (rw f at d) (rw f at a)))
+
+  -- no slot is the value for a mark that is not there
+  module _ (small : C < absent) where
     came-missed : {r : ℕ} → armAt xs rootPlace .weight ≢ 0 → Came (armAt xs rootPlace .node) r → r ≡ absent → Lacks xs m
     came-missed some lost a = absurd (omega arith)
     came-missed some (found below way t) a = absurd (omega (arith, small, below))
     came-missed some (missed way f) a = other some way f
-
-    pub find-finds : find♯ xs m ≢ damaged → find♯ xs m ≢ absent → Finds xs m (find♯ xs m)
-    unfolding find♯ findRoot
-    find-finds d a =
-        by-cases (eqb (armAt xs rootPlace .weight) 0)
-        (λ t. absurd (a (rw t)))
-        (λ f. rw f (came-found (eqb-false (armAt xs rootPlace .weight) 0 f) (came deepest (armAt xs rootPlace .node)) (rw f at d) (rw f at a)))
 
     pub find-lacks : find♯ xs m ≡ absent → Lacks xs m
     unfolding find♯ findRoot
@@ -109,3 +109,12 @@ module _ (xs : List ℕ) (m : Mark) where
         by-cases (eqb (armAt xs rootPlace .weight) 0)
         (λ t. none (eqb-true (armAt xs rootPlace .weight) 0 t))
         (λ f. came-missed (eqb-false (armAt xs rootPlace .weight) 0 f) (came deepest (armAt xs rootPlace .node)) (rw f at a))
+
+-- the slot found is one of the table's
+leads-within : {xs : List ℕ} {m : Mark} {n s : ℕ} → Leads xs m n s → s < capacityOf xs
+leads-within (leaf h) = h
+leads-within (left h e k) = leads-within k
+leads-within (right h e k) = leads-within k
+
+pub finds-within : {xs : List ℕ} {m : Mark} {s : ℕ} → Finds xs m s → s < capacityOf xs
+finds-within f = leads-within (f .leads)

@@ -1,15 +1,16 @@
 -- The mirrors of the count in a table: those of either kind of tree (Rattle.nodes.specs.Count), along x, where the arrival at a tree inside the side hands
 -- over to its auxiliary tree. Assumes nothing.
-use Prim.Native.Nat.{ℕ, _/_, _%_}
+use Prim.Native.Nat.{ℕ, _-_, _/_, _%_}
 use mathlib.Core.List.{List}
 use lib.Dec.{leb, ltb, eqb}
 use lib.ListN.{length, getD}
 use Rattle.model.specs.Lists.{if_then_else_}
 use Rattle.model.specs.Sheet.{Box, alongX, holds}
-use Rattle.table.specs.Layout.{capacityPlace, mainPlace, auxiliaryPlace, rootPlace, levelEnd}
-use Rattle.table.specs.Limits.{deepest, lost}
+use Rattle.table.specs.Layout.{capacityPlace, mainPlace, auxiliaryPlace, rootPlace, recordWidth, levelEnd}
+use Rattle.table.specs.Limits.{deepest, lostCount}
 use Rattle.table.specs.Marks.{slotMark}
-use Rattle.table.specs.Tally.{visited}
+use Rattle.table.specs.Grades.{graded, word}
+use Rattle.table.specs.Figures.{arrived}
 use Rattle.nodes.specs.Arms.{Arm, armAt}
 use Rattle.nodes.specs.Count.{Kind, sideAlong, lowFrom, highFrom, lowEnd, highEnd, openFrom, countTree}
 use Rattle.twofold_layout.specs.Levels.{topLevel, deeper}
@@ -18,16 +19,20 @@ use Rattle.secondary_search.specs.Count.{count♯}
 -- the arrival at the leaf of a slot, at the inner node of a name, and at a node of that number, inside the side: a node that is of no slot is damage, and so is
 -- a level that is not all there
 unfoldable pub leaf♯ : List ℕ → Box → ℕ → ℕ → ℕ
-leaf♯ xs b s tally = if holds b (slotMark xs s) then visited tally 1 else visited tally 0
+leaf♯ xs b s tally = let m = slotMark xs s in if holds b m then arrived tally 1 (word (graded (m .grade))) else arrived tally 0 0
+
+-- how many records a level has, from where they begin and end
+abbrev pub levelRecords : ℕ → ℕ → ℕ
+levelRecords base end = (end - base) / recordWidth
 
 module _ (xs : List ℕ) (capacity : ℕ) (b : Box) where
   unfoldable pub handOver♯ : ℕ → ℕ → ℕ → ℕ
   handOver♯ base name tally =
-      if ltb (length xs) (levelEnd base capacity) then lost else count♯ xs capacity b base (armAt xs (auxiliaryPlace name)) (visited tally 0)
+      if ltb (length xs) (levelEnd base capacity) then lostCount else count♯ xs capacity b base (armAt xs (auxiliaryPlace name)) (arrived tally 0 0)
 
   unfoldable pub handed♯ : ℕ → ℕ → ℕ → ℕ
   handed♯ base n tally =
-      if leb capacity (n / 2) then lost else (if eqb (n % 2) 0 then leaf♯ xs b (n / 2) tally else handOver♯ base (n / 2) tally)
+      if leb capacity (n / 2) then lostCount else (if eqb (n % 2) 0 then leaf♯ xs b (n / 2) tally else handOver♯ base (n / 2) tally)
 
   -- the main tree has its records in the slots, and the auxiliary trees of each depth their own level
   abbrev pub mainKind : Kind ℕ
@@ -35,10 +40,10 @@ module _ (xs : List ℕ) (capacity : ℕ) (b : Box) where
     place = λ base name. mainPlace name;
     deeper = λ base. deeper base capacity;
     take = λ base a tally. handed♯ base (a .node) tally;
-    before = λ a tally. visited tally 0;
-    past = λ tally. visited tally 0;
-    visit = λ tally. visited tally 0;
-    lost = lost;
+    before = λ a tally. arrived tally 0 0;
+    past = λ tally. arrived tally 0 0;
+    visit = λ tally. arrived tally 0 0;
+    lost = lostCount;
   }
 
   abbrev pub mainLow♯ : ℕ → ℕ → ℕ → ℕ
@@ -59,7 +64,7 @@ module _ (xs : List ℕ) (capacity : ℕ) (b : Box) where
   -- from the arm of a tree whose level begins at a word
   unfoldable pub mainSearch♯ : ℕ → Arm → ℕ
   mainSearch♯ base a =
-      if leb capacity (a .node / 2) then lost
+      if leb capacity (a .node / 2) then lostCount
       else (if eqb (a .node % 2) 0 then leaf♯ xs b (a .node / 2) 0 else countTree mainKind (sideAlong alongX b) capacity xs base a 0)
 
   unfoldable pub countRoot : Arm → ℕ

@@ -63,7 +63,8 @@ pub listBeneath♯-zero : (f : ℕ) → f ≡ 0 → (xs : List ℕ) (capacity : 
 unfolding listBeneath♯
 listBeneath♯-zero f e xs capacity b most base a tally ys = rw e
 
-pub listBeneath♯-suc : (f : ℕ) → (f ≡ 0 → ⊥) → (xs : List ℕ) (capacity : ℕ) (b : Box) (most base : ℕ) (a : Arm) (tally : ℕ) (ys : List ℕ)
+pub listBeneath♯-suc : (f : ℕ) → (f ≡ 0 → ⊥)
+    → (xs : List ℕ) (capacity : ℕ) (b : Box) (most base : ℕ) (a : Arm) (tally : ℕ) (ys : List ℕ)
     → listBeneath♯ f xs capacity b most base a tally ys ≡ listArm (listBeneath♯ (f - 1) xs capacity b most) xs capacity b most base a tally ys
 unfolding listBeneath♯
 listBeneath♯-suc zero h xs capacity b most base a tally ys = absurd (h refl)

@@ -15,8 +15,10 @@ module _ (xs : List ℕ) (m : Mark) where
   -- the way from a node leads to the leaf of a slot; every slot on it is one of the table's
   pub data Leads : ℕ → ℕ → Type 0 where
     leaf : {s : ℕ} → s < capacityOf xs → Leads (2 * s) s
-    left : {s slot : ℕ} → s < capacityOf xs → belowX m (slotMark xs s) ≡ true → Leads (recordAt xs (mainPlace s) .left .node) slot → Leads (2 * s + 1) slot
-    right : {s slot : ℕ} → s < capacityOf xs → belowX m (slotMark xs s) ≡ false → Leads (recordAt xs (mainPlace s) .right .node) slot → Leads (2 * s + 1) slot
+    left : {s slot : ℕ} → s < capacityOf xs → belowX m (slotMark xs s) ≡ true → Leads (recordAt xs (mainPlace s) .left .node) slot
+        → Leads (2 * s + 1) slot
+    right : {s slot : ℕ} → s < capacityOf xs → belowX m (slotMark xs s) ≡ false → Leads (recordAt xs (mainPlace s) .right .node) slot
+        → Leads (2 * s + 1) slot
 
   -- from the root to the slot that has the mark
   pub record Finds (s : ℕ) : Type 0 where

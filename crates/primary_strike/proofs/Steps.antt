@@ -79,7 +79,8 @@ module _ (f : ℕ → Mark) (C : ℕ) (small : C ≤ 65536) (s : ℕ) where
   R = slotAuxiliary f
 
   -- THE LEAF GOES: its sibling, of at most three slots, takes the node's place
-  pub goes-holds : (d : ℕ) (u : SlotMain) (xs : List ℕ) (t : SlotMain) (first : ℕ) → length xs ≡ W C → TwoFold f C (suc d) xs u → ByRules f u → weight u ≤ 3
+  pub goes-holds : (d : ℕ) (u : SlotMain) (xs : List ℕ) (t : SlotMain) (first : ℕ) → length xs ≡ W C → TwoFold f C (suc d) xs u
+      → ByRules f u → weight u ≤ 3
       → suc d + depth u ≤ D C → (least t ≡ s → first ≡ least u)
       → LeavesMain f C s d xs t u (lifted♯ C (levelPlace C d) (armOf alongX f u) first xs)
   unfolding lifted♯ strikeOf
@@ -93,7 +94,8 @@ module _ (f : ℕ → Mark) (C : ℕ) (small : C ≤ 65536) (s : ℕ) where
 
   -- THE REBUILDING of a node that will not be even
   pub afresh-holds : (d d₀ : ℕ) (t t′ : SlotMain) (xs : List ℕ) → Strikes alongX f s R t t′ → length xs ≡ W C → TwoFold f C d xs t
-      → ByRules f t → depth t < 40 → d + depth (rebalance X R t′) ≤ D C → rebalance X R t′ ≡ build X R d₀ (marks t′) → rebuilt t′ ≡ weight t′
+      → ByRules f t → depth t < 40 → d + depth (rebalance X R t′) ≤ D C → rebalance X R t′ ≡ build X R d₀ (marks t′)
+      → rebuilt t′ ≡ weight t′
       → LeavesMain f C s d xs t t′ (struckAfresh♯ C s (levelPlace C d) (weight t) (number t) xs)
   unfolding struckAfresh♯ struckFresh strikeOf
   afresh-holds d d₀ t t′ xs k ln h b low deep e n =

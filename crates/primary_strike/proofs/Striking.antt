@@ -20,7 +20,7 @@ use Rattle.model.proofs.Orders.{sheet-sameness, alongX-laws}
 use Rattle.model.proofs.Sizes.{D-rises}
 use Rattle.model.proofs.Depth.{balanced-depth}
 use Rattle.model.proofs.Rebalance.{rebalance-left, rebalance-right, rebuilt-left, rebuilt-right}
-use Rattle.table.specs.Layout.{mainPlace, rootPlace, levelPlace}
+use Rattle.table.specs.Layout.{armWidth, mainPlace, rootPlace, levelPlace}
 use Rattle.table.specs.Limits.{deepest, damaged}
 use Rattle.nodes.specs.Arms.{Record, noArm, arms, Way, way, wayOf, armAt, renamed, firstLeft}
 use Rattle.nodes.specs.Ways.{wayAt}
@@ -122,7 +122,8 @@ module _ (f : ℕ → Mark) (C : ℕ) (small : C ≤ 65536) (s : ℕ) where
     low = omega (arith, level, most-levels C small)
 
     -- the node stays even: its auxiliary tree is struck, then one child, and it is written anew
-    left-even : (l′ : SlotMain) → alongX .below (f s) (f (least r)) ≡ true → Strikes alongX f s R l l′ → evenly l′ r ≡ true → StruckBy rec (suc d) l l′
+    left-even : (l′ : SlotMain) → alongX .below (f s) (f (least r)) ≡ true → Strikes alongX f s R l l′ → evenly l′ r ≡ true
+        → StruckBy rec (suc d) l l′
         → LeavesMain f C s d xs (node i l r) (node here l′ r) (lefts rec d l r xs)
     unfolding mainChild strikeOver strikeOf
     left-even l′ e k even struckBy =
@@ -150,7 +151,8 @@ module _ (f : ℕ → Mark) (C : ℕ) (small : C ≤ 65536) (s : ℕ) where
           first = q .first;
         }
 
-    right-even : (r′ : SlotMain) → alongX .below (f s) (f (least r)) ≡ false → Strikes alongX f s R r r′ → evenly l r′ ≡ true → StruckBy rec (suc d) r r′
+    right-even : (r′ : SlotMain) → alongX .below (f s) (f (least r)) ≡ false → Strikes alongX f s R r r′ → evenly l r′ ≡ true
+        → StruckBy rec (suc d) r r′
         → LeavesMain f C s d xs (node i l r) (node here l r′) (rights rec d l r xs)
     unfolding mainChild strikeOver strikeOf
     right-even r′ e k even struckBy =
@@ -230,7 +232,8 @@ module _ (f : ℕ → Mark) (C : ℕ) (small : C ≤ 65536) (s : ℕ) where
         (λ uneven. right-uneven r′ e k shallow deep′ uneven)
 
   -- along the way
-  strikes-beneath : (n : ℕ) {t t′ : SlotMain} → Strikes alongX f s R t t′ → (d : ℕ) → ByRules f t → d + depth t ≤ D C → d + depth (rebalance X R t′) ≤ D C
+  strikes-beneath : (n : ℕ) {t t′ : SlotMain} → Strikes alongX f s R t t′ → (d : ℕ) → ByRules f t → d + depth t ≤ D C
+      → d + depth (rebalance X R t′) ≤ D C
       → depth t < n → depth t < 40 → StruckBy (strikeBeneath♯ n C (f s) s) d t t′
   unfolding wayOf
   strikes-beneath zero k d b deep deep′ fuel low = absurd (omega arith)
@@ -255,7 +258,8 @@ module _ (f : ℕ → Mark) (C : ℕ) (small : C ≤ 65536) (s : ℕ) where
   strikeBeneath-holds fuel k d xs ln h b deep deep′ n low = strikes-beneath fuel k d b deep deep′ n low xs ln h
 
   -- the arm goes to the root
-  put-holds : (xs : List ℕ) {t t′ : SlotMain} (p : After Strike) → Strikes alongX f s R t t′ → length xs ≡ W C → ByRules f t → LeavesMain f C s 0 xs t t′ p
+  put-holds : (xs : List ℕ) {t t′ : SlotMain} (p : After Strike) → Strikes alongX f s R t t′ → length xs ≡ W C → ByRules f t
+      → LeavesMain f C s 0 xs t t′ p
       → LeavesRoot f C xs t′ (putStruck p)
   unfolding putStruck
   put-holds xs {t = t} {t′ = t′} p k ln b q =
@@ -291,9 +295,9 @@ module _ (f : ℕ → Mark) (C : ℕ) (small : C ≤ 65536) (s : ℕ) where
   -- and from a lone leaf, which leaves no tree
   pub mainStrike-lone : (q : ℕ) (xs : List ℕ) → length xs ≡ W C → armAt xs rootPlace ≡ armOf {I = SlotAuxiliary} alongX f (leaf q)
       → let p = mainStrike♯ C (f s) s xs in
-      (armAt (p .words) rootPlace ≡ noArm) × (p .out ≡ 0) × TwoFrame C 0 (λ z. ⊥) (λ z. ⊥) rootPlace 4 xs (p .words)
+      (armAt (p .words) rootPlace ≡ noArm) × (p .out ≡ 0) × TwoFrame C 0 (λ z. ⊥) (λ z. ⊥) rootPlace armWidth xs (p .words)
   unfolding mainStrike♯ strikeRoot
   mainStrike-lone q xs ln arm =
       let even : (2 * q) % 2 ≡ 0 = omega arith in
-      let room : rootPlace + 4 ≤ length xs = omega (arith, two-main small ln .runRoom) in
+      let room : rootPlace + armWidth ≤ length xs = omega (arith, two-main small ln .runRoom) in
       rw (arm, eq-eqb ((2 * q) % 2) 0 even) (putArm-same xs rootPlace noArm room, refl, arm-twoFrame xs rootPlace noArm)

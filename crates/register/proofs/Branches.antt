@@ -1,17 +1,20 @@
 -- The branches of the calls' code, each equal to its mirror. Assumes nothing.
 use Prim.Native.Nat.{ℕ, _+_, _*_, _-_, _/_, _%_, _≤_, _<_}
 use mathlib.Core.Path.{_≡_, refl, sym, ap, subst, _∙_}
-use mathlib.Core.Logic.{_⊎_, inl, inr}
+use mathlib.Core.Logic.{_≢_, _⊎_, inl, inr}
 use mathlib.Core.List.{List, _++_}
 use lib.ListN.{take, drop, length, getD}
 use native.Mathlib.Nat.{sub-zero}
 use borrow.Author.Tests.{eq-eqb, ne-eqb}
 use Rattle.model.specs.Sheet.{Mark, Box, belowX}
-use Rattle.model.specs.Refusals.{Outcome, accepted, refused, openTable, enterMark, enterBox}
+use Rattle.model.specs.Refusals.{Outcome, accepted, refused, openTable, enterBox}
 use Rattle.model.specs.History.{Answer, refusal, updated, whichList}
 use Rattle.table.specs.After.{After, after}
-use Rattle.table.specs.Layout.{livePlace}
+use Rattle.table.specs.Layout.{livePlace, listPlace}
+use Rattle.table.specs.Figures.{foundIn, visitsIn}
+use Rattle.table.specs.Limits.{damaged, absent}
 use Rattle.primary_search.specs.Find.{findFrom♯, find♯}
+use Rattle.primary_search.proofs.Sought.{find-finds, finds-within}
 use Rattle.primary_search.specs.Count.{countFrom♯, mainCount♯}
 use Rattle.primary_search.specs.List.{listFrom♯, mainList♯}
 use Rattle.sorting.specs.Sorted.{SortedIn}
@@ -22,20 +25,20 @@ use Rattle.register.specs.Mirrors.{ListedOwn, ListsOwn, lost, short, lis
 use Rattle.register.specs.Answers.{ListFigures, listRefused}
 
 module _ (xs : List ℕ) (n : ℕ) (own : n ≡ ownWords xs) where
-  module _ (f : Mark → List ℕ → After Answer) (m : Mark) where
-    pub update-not-table : n ≡ 0 → after (refusal 3 0) xs ≡ updateOwn f m xs
+  module _ (entered : Outcome Mark) (f : Mark → List ℕ → After Answer) where
+    pub update-not-table : n ≡ 0 → after (refusal 3 0) xs ≡ updateOwn entered f xs
     unfolding updateOwn onTable
     update-not-table z = rw (← own, z)
 
     module _ (some : n ≡ 0 → ⊥) where
-      pub update-outside : (k : ℕ) → enterMark m ≡ refused k → after (refusal k 0) xs ≡ updateOwn f m xs
+      pub update-refused : (k : ℕ) → entered ≡ refused k → after (refusal k 0) xs ≡ updateOwn entered f xs
       unfolding updateOwn onTable onAccepted
-      update-outside k e = rw (← own, ne-eqb n 0 some, e)
+      update-refused k e = rw (← own, ne-eqb n 0 some, e)
 
-      pub update-own : (m′ : Mark) → enterMark m ≡ accepted m′ → (a : Answer) (x : List ℕ) → after a x ≡ f m′ (take (n - 0) xs)
-          → after a (x ++ drop (n - 0) xs) ≡ updateOwn f m xs
+      pub update-own : (m : Mark) → entered ≡ accepted m → (a : Answer) (x : List ℕ) → after a x ≡ f m (take (n - 0) xs)
+          → after a (x ++ drop (n - 0) xs) ≡ updateOwn entered f xs
       unfolding updateOwn onTable onAccepted within
-      update-own m′ e a x h = let k = (rw (sub-zero n) at h) in rw (← own, ne-eqb n 0 some, e, sub-zero n, ← k)
+      update-own m e a x h = let k = (rw (sub-zero n) at h) in rw (← own, ne-eqb n 0 some, e, sub-zero n, ← k)
 
   module _ (b : Box) where
     pub count-not-table : n ≡ 0 → refusal 3 0 ≡ count♯ b xs
@@ -47,7 +50,8 @@ module _ (xs : List ℕ) (n : ℕ) (own : n ≡ ownWords xs) where
       unfolding count♯ orNumber
       count-crossed k e = rw (← own, ne-eqb n 0 some, e)
 
-      pub count-own : (v : ℕ) → v ≡ ownVisits xs → (b′ : Box) → enterBox b ≡ accepted b′ → (a : Answer) → a ≡ countOwn♯ v b′ (take (n - 0) xs) → a ≡ count♯ b xs
+      pub count-own : (v : ℕ) → v ≡ ownVisits xs → (b′ : Box) → enterBox b ≡ accepted b′ → (a : Answer)
+          → a ≡ countOwn♯ v b′ (take (n - 0) xs) → a ≡ count♯ b xs
       unfolding count♯ orNumber
       count-own v ev b′ e a h = rw (← own, ne-eqb n 0 some, e, ← sub-zero n, ← ev, ← h)
 
@@ -67,6 +71,12 @@ module _ (xs : List ℕ) (capacity : ℕ) (is : capacity ≡ capacityOf xs) wher
   unfolding find♯
   find-read m s h = h ∙ ap (λ c. findFrom♯ xs c m) is
 
+  -- a slot that was found is one of the table's
+  pub slot-read : (m : Mark) (s : ℕ) → s ≡ findFrom♯ xs capacity m → s ≢ damaged → s ≢ absent → s < capacity
+  slot-read m s h d a =
+      let e = find-read m s h in
+      rw (e, is) (finds-within (find-finds xs m (λ z. d (e ∙ z)) (λ z. a (e ∙ z))))
+
   pub count-read : (b : Box) (t : ℕ) → t ≡ countFrom♯ xs capacity b → t ≡ mainCount♯ xs b
   unfolding mainCount♯
   count-read b t h = h ∙ ap (λ c. countFrom♯ xs c b) is
@@ -77,22 +87,22 @@ module _ (xs : List ℕ) (capacity : ℕ) (is : capacity ≡ capacityOf xs) wher
 
 -- the k marks that a count has found are listed into the leading part x of the first list, and sorted
 pub list-marks : (b : Box) (most k : ℕ) (xs first second first′ second′ x : List ℕ) (tally visits which : ℕ)
-    → after tally x ≡ mainList♯ xs b (most + 2 * k) (take (3 * k - 0) first) → length x ≡ length (take (3 * k - 0) first)
+    → after tally x ≡ mainList♯ xs b (most + 2 * k) (take (listPlace k - 0) first) → length x ≡ length (take (listPlace k - 0) first)
     → visits ≡ tally % 4294967296 → which ≡ whichList k
-    → SortedIn belowX k (x ++ drop (3 * k - 0) first) second first′ second′
+    → SortedIn belowX k (x ++ drop (listPlace k - 0) first) second first′ second′
     → ListedOwn b most k xs first second first′ second′ (record { number = 0; k = k; visits = visits; which = which })
 list-marks b most k xs first second first′ second′ x tally visits which listed many ev ew sorted =
-    let h = (rw (sub-zero (3 * k)) at listed) in
-    let l = (rw (sub-zero (3 * k)) at many) in
-    let s = (rw (sub-zero (3 * k)) at sorted) in
+    let h = (rw (sub-zero (listPlace k)) at listed) in
+    let l = (rw (sub-zero (listPlace k)) at many) in
+    let s = (rw (sub-zero (listPlace k)) at sorted) in
     record { long = rw (← h) l; figures = rw (ev, ew, ← h); sorted = rw (← h) s }
 
-module _ (b : Box) (most : ℕ) (xs first second : List ℕ) (t v k : ℕ) (et : t ≡ mainCount♯ xs b) (ev : v ≡ t % 4294967296) (ek : k ≡ t / 4294967296) where
-  visits-is : v ≡ mainCount♯ xs b % 4294967296
-  visits-is = ev ∙ ap (λ t. t % 4294967296) et
+module _ (b : Box) (most : ℕ) (xs first second : List ℕ) (t v k : ℕ) (et : t ≡ mainCount♯ xs b) (ev : v ≡ visitsIn t) (ek : k ≡ foundIn t) where
+  visits-is : v ≡ visitsIn (mainCount♯ xs b)
+  visits-is = ev ∙ ap visitsIn et
 
-  found-is : k ≡ mainCount♯ xs b / 4294967296
-  found-is = ek ∙ ap (λ t. t / 4294967296) et
+  found-is : k ≡ foundIn (mainCount♯ xs b)
+  found-is = ek ∙ ap foundIn et
 
   pub list-lost : most < v → ListsOwn b most xs first second first second (listRefused 4 0)
   list-lost h = lost (inl (subst (λ n. most < n) visits-is h))
@@ -101,21 +111,21 @@ module _ (b : Box) (most : ℕ) (xs first second : List ℕ) (t v k : ℕ) (et :
   list-many h = lost (inr (subst (λ n. getD xs livePlace 0 < n) found-is h))
 
   module _ (soon : v ≤ most) (few : k ≤ getD xs livePlace 0) where
-    soon-is : mainCount♯ xs b % 4294967296 ≤ most
+    soon-is : visitsIn (mainCount♯ xs b) ≤ most
     soon-is = subst (λ n. n ≤ most) visits-is soon
 
-    few-is : mainCount♯ xs b / 4294967296 ≤ getD xs livePlace 0
+    few-is : foundIn (mainCount♯ xs b) ≤ getD xs livePlace 0
     few-is = subst (λ n. n ≤ getD xs livePlace 0) found-is few
 
-    pub list-short : (length first < 3 * k) ⊎ (length second < 3 * k) → ListsOwn b most xs first second first second (listRefused 10 k)
+    pub list-short : (length first < listPlace k) ⊎ (length second < listPlace k) → ListsOwn b most xs first second first second (listRefused 10 k)
     list-short h =
         subst (λ n. ListsOwn b most xs first second first second (listRefused 10 n)) (sym found-is)
-        (short soon-is few-is (subst (λ n. (length first < 3 * n) ⊎ (length second < 3 * n)) found-is h))
+        (short soon-is few-is (subst (λ n. (length first < listPlace n) ⊎ (length second < listPlace n)) found-is h))
 
-    pub list-lists : (first′ second′ : List ℕ) (f : ListFigures) → 3 * k ≤ length first → 3 * k ≤ length second
+    pub list-lists : (first′ second′ : List ℕ) (f : ListFigures) → listPlace k ≤ length first → listPlace k ≤ length second
         → ListedOwn b most k xs first second first′ second′ f → ListsOwn b most xs first second first′ second′ f
     list-lists first′ second′ f p q h =
-        lists soon-is few-is (subst (λ n. 3 * n ≤ length first) found-is p) (subst (λ n. 3 * n ≤ length second) found-is q)
+        lists soon-is few-is (subst (λ n. listPlace n ≤ length first) found-is p) (subst (λ n. listPlace n ≤ length second) found-is q)
         (subst (λ n. ListedOwn b most n xs first second first′ second′ f) found-is h)
 
 module _ (b : Box) (xs first second : List ℕ) (n : ℕ) (own : n ≡ ownWords xs) where

@@ -16,6 +16,7 @@ use Rattle.model.proofs.History.{Right, open-right, StepRight, Along, run-right
 use Rattle.model.specs.Sheet.{sheet, alongX}
 use Rattle.model.proofs.Orders.{sheet-sameness, alongX-laws}
 use Rattle.model.proofs.Sorted.{sorted-distinct}
+use Rattle.table.specs.Layout.{listPlace}
 use Rattle.table.specs.Marks.{markWords}
 use Rattle.register.specs.Answers.{inList}
 use Rattle.register.specs.Performs.{Lent, early, Later, opens, unsound, Performs}
@@ -27,7 +28,7 @@ as-plain : (s : State) (m : Made) → Performs (m .call) (m .before) (m .after) 
     → Right (next (m .call) s) → AsPlain s m
 as-plain s m p e r left = record {
   answers = e;
-  words = subst (λ a. take (3 * length (a .listed)) (inList (m .answer .which) (m .after .first) (m .after .second)) ≡ markWords (a .listed)) e
+  words = subst (λ a. take (listPlace (length (a .listed))) (inList (m .answer .which) (m .after .first) (m .after .second)) ≡ markWords (a .listed)) e
       (p .leavesLists .answer);
   not-3 = λ z. r .not-3 (ap (λ a. a .number) (sym e) ∙ z);
   not-4 = λ z. r .not-4 (ap (λ a. a .number) (sym e) ∙ z);

@@ -1,4 +1,5 @@
--- List: on a sound table the answer is the plain list's, sorted and where the passes leave it; on any table the words past 3k stay. Assumes nothing.
+-- List: on a sound table the answer is the plain list's, sorted and where the passes leave it; on any table the words past the marks listed stay.
+-- Assumes nothing.
 use Prim.Native.Nat.{ℕ, _+_, _*_, _/_, _%_, _≤_, _<_}
 use mathlib.Core.Path.{_≡_, refl, sym, ap, subst, _∙_}
 use mathlib.Core.Logic.{_≢_, _⊎_, inl, inr}
@@ -9,7 +10,7 @@ use lib.Dec.{eqb, ltb}
 use lib.ListN.{length, take, drop, length-append, drop-of-length-le}
 use lib.Seq.{sets, sets-eq, take-at, drop-at, take-all, length-take-le}
 use borrow.Author.Tests.{eqb-true, eqb-false, ne-eqb, lt-ltb, le-ltb}
-use Rattle.model.specs.Lists.{if_then_else_, countIf, filterBy, sort}
+use Rattle.model.specs.Lists.{if_then_else_, countIf, filterBy}
 use Rattle.model.specs.Tree.{marksOf}
 use Rattle.model.specs.Sizes.{passes}
 use Rattle.model.specs.Sheet.{Mark, Box, Main, boxCrossed, belowX, holds, main}
@@ -18,6 +19,10 @@ use Rattle.model.specs.History.{State, Answer, refusal, listedIn, whichList, an
 use Rattle.model.specs.History as history
 use Rattle.model.proofs.Logic.{by-cases, or-true-right}
 use Rattle.model.proofs.Lists.{countIf-length, filterBy-length}
+use Rattle.model.proofs.Orders.{sheet-sameness, alongX-laws}
+use Rattle.table.specs.Layout.{listPlace}
+use Rattle.table.specs.Figures.{foundIn, visitsIn}
+use Rattle.table.proofs.Tallies.{pack-visits}
 use Rattle.table.specs.Marks.{listMarks, markWords}
 use Rattle.table.specs.Tally.{pack}
 use Rattle.table.specs.Limits.{mostVisits}
@@ -29,8 +34,9 @@ use Rattle.table.specs.Header.{capacityOf, liveOf, ownWords, ownVisits}
 use Rattle.primary_search.specs.Count.{mainCount♯}
 use Rattle.primary_search.specs.List.{mainList♯}
 use Rattle.whole_table.proofs.Searching as searching
-use Rattle.whole_table.proofs.Searching.{holding-within, holding-small, count-most, list-within, list-most, list-sound}
-use Rattle.sorting.specs.Sorted.{sortedWords, SortedIn}
+use Rattle.whole_table.proofs.Searching.{holding-within, holding-small, list-within, list-most, list-sound}
+use Rattle.sorting.specs.Sorted.{stableSort, sortedWords, SortedIn}
+use Rattle.sorting.proofs.Stable.{stableSort-distinct}
 use Rattle.sorting.proofs.Words.{listMarks-length, listMarks-words, words-listMarks}
 use Rattle.sorting.proofs.Sorting.{listMarks-take}
 use Rattle.table.proofs.Own.{own-visits-few}
@@ -40,7 +46,7 @@ use Rattle.register.specs.Performs as performs
 use Rattle.register.specs.Mirrors.{ListedOwn, ListsOwn, lost, short, lists, Lists, notTable, crossed, onOwn}
 use Rattle.register.proofs.Own.{own-none, own-some, own-is, sound-table}
 use Rattle.register.proofs.Performing.{performs-kept, refused-early, refused-later}
-use Rattle.register.proofs.Reading.{pack-visits, pack-found, visits-sound, found-sound, own-limit, counts-to, damage-unsound}
+use Rattle.register.proofs.Reading.{found-sound, own-limit, counts-to, damage-unsound}
 
 -- the passes tell one of the two lists
 which-some : (k : ℕ) → whichList k ≢ 0
@@ -68,14 +74,15 @@ module _ (k v : ℕ) (first second : List ℕ) where
 -- THE ACCEPTED LIST
 
 -- k marks of a box were listed from the own words and sorted
-module _ (b : Box) (limit k : ℕ) (xs first second first′ second′ : List ℕ) (roomFirst : 3 * k ≤ length first) (roomSecond : 3 * k ≤ length second)
+module _ (b : Box) (limit k : ℕ) (xs first second first′ second′ : List ℕ) (roomFirst : listPlace k ≤ length first)
+    (roomSecond : listPlace k ≤ length second)
     (sameFirst : length first′ ≡ length first) (sameSecond : length second′ ≡ length second) where
   abbrev most : ℕ
   most = limit + 2 * k
 
   -- the leading part of the first list, before and after the search, and the visits
   abbrev part : List ℕ
-  part = take (3 * k) first
+  part = take (listPlace k) first
 
   abbrev met : List ℕ
   met = mainList♯ (own xs) b most part .words
@@ -86,13 +93,13 @@ module _ (b : Box) (limit k : ℕ) (xs first second first′ second′ : List �
   abbrev filled : List ℕ
   filled = inList (whichList k) first′ second′
 
-  part-length : length part ≡ 3 * k
-  part-length = length-take-le (3 * k) first roomFirst
+  part-length : length part ≡ listPlace k
+  part-length = length-take-le (listPlace k) first roomFirst
 
-  filled-room : 3 * k ≤ length filled
+  filled-room : listPlace k ≤ length filled
   filled-room = by-cases (eqb (whichList k) 1) (λ t. rw t (omega arith)) (λ f. rw f (omega arith))
 
-  module _ (long : length met ≡ length part) (done : SortedIn belowX k (met ++ drop (3 * k) first) second first′ second′) where
+  module _ (long : length met ≡ length part) (done : SortedIn belowX k (met ++ drop (listPlace k) first) second first′ second′) where
     -- on any table
     listed-leaves : LeavesLists (listedIn (whichList (length (listed-marks k visits first′ second′))) (listed-marks k visits first′ second′) visits)
         (lends xs first second) (lends xs first′ second′)
@@ -101,7 +108,7 @@ module _ (b : Box) (limit k : ℕ) (xs first second first′ second′ : List �
         let n = listMarks-length filled 0 k in
         record {
           answer = rw n (sym (words-listMarks k filled filled-room));
-          pastFirst = rw n (done .pastFirst ∙ drop-at met (drop (3 * k) first) (3 * k) (long ∙ part-length));
+          pastFirst = rw n (done .pastFirst ∙ drop-at met (drop (listPlace k) first) (listPlace k) (long ∙ part-length));
           pastSecond = rw n (done .pastSecond);
         }
 
@@ -121,8 +128,8 @@ module _ (b : Box) (limit k : ℕ) (xs first second first′ second′ : List �
       found : searching.Lists (own xs) T b most part
       found = list-sound (own xs) T h b most part (omega (arith, is, many, list-within (own xs) T h b)) (omega (arith, few)) (omega (arith, part-length))
 
-      found-length : length (markWords (found .met)) ≡ 3 * k
-      found-length = markWords-length (found .met) ∙ ap (λ n. 3 * n) (found .many ∙ sym many)
+      found-length : length (markWords (found .met)) ≡ listPlace k
+      found-length = markWords-length (found .met) ∙ ap listPlace (found .many ∙ sym many)
 
       met-words : met ≡ markWords (found .met)
       met-words =
@@ -137,16 +144,17 @@ module _ (b : Box) (limit k : ℕ) (xs first second first′ second′ : List �
           ap (λ p. p .out % 4294967296) (found .is)
           ∙ pack-visits (length (found .met)) (main .list b T .visits) (omega (arith, list-most (own xs) T h b, few, many))
 
-      sorted-plain : take (3 * k) filled ≡ markWords plain
+      sorted-plain : take (listPlace k) filled ≡ markWords plain
       unfolding sortedWords
       sorted-plain =
-          let all = met ++ drop (3 * k) first in
-          let front : take (3 * k) all ≡ markWords (found .met) = take-at met (drop (3 * k) first) (3 * k) (long ∙ part-length) ∙ met-words in
-          let room : 3 * k ≤ length all = omega (arith, length-append met (drop (3 * k) first), long, part-length) in
+          let all = met ++ drop (listPlace k) first in
+          let front : take (listPlace k) all ≡ markWords (found .met) = take-at met (drop (listPlace k) first) (listPlace k) (long ∙ part-length) ∙ met-words in
+          let room : listPlace k ≤ length all = omega (arith, length-append met (drop (listPlace k) first), long, part-length) in
           let marks : listMarks all 0 k ≡ found .met =
           sym (listMarks-take k all room) ∙ ap (λ l. listMarks l 0 k) front
           ∙ ap (λ n. listMarks (markWords (found .met)) 0 n) (many ∙ sym (found .many)) ∙ listMarks-words (found .met) in
-          done .answer ∙ ap (λ l. markWords (sort belowX l)) marks ∙ ap markWords (found .sorts)
+          done .answer ∙ ap (λ l. markWords (stableSort belowX l)) marks
+          ∙ ap markWords (stableSort-distinct alongX-laws sheet-sameness (found .met) (found .once) ∙ found .sorts)
 
       listed-plain : listed-marks k visits first′ second′ ≡ plain
       unfolding listed-marks
@@ -154,11 +162,16 @@ module _ (b : Box) (limit k : ℕ) (xs first second first′ second′ : List �
           sym (listMarks-take k filled filled-room) ∙ ap (λ l. listMarks l 0 k) sorted-plain
           ∙ ap (λ n. listMarks (markWords plain) 0 n) (sym plain-many) ∙ listMarks-words plain
 
-      listed-answers : boxCrossed b ≡ false → listedIn (whichList (length (listed-marks k visits first′ second′))) (listed-marks k visits first′ second′) visits
+      listed-answers : boxCrossed b ≡ false
+          → listedIn (whichList (length (listed-marks k visits first′ second′))) (listed-marks k visits first′ second′) visits
           ≡ answer (history.list b (length first) (length second)) (stateOf xs T)
       unfolding enterBox
       listed-answers fine =
-          rw (fine, le-ltb (length first) (3 * length plain) (omega (arith, plain-many)), le-ltb (length second) (3 * length plain) (omega (arith, plain-many)))
+          rw (
+            fine,
+            le-ltb (length first) (listPlace (length plain)) (omega (arith, plain-many)),
+            le-ltb (length second) (listPlace (length plain)) (omega (arith, plain-many)),
+          )
           (rw (listed-plain, visits-is))
 
 -- THE CALL
@@ -187,12 +200,12 @@ module _ (b : Box) (xs first second : List ℕ) where
     unfolding early enterBox
     no-row = rw (own-some xs table, fine)
 
-    short-answer : (n : ℕ) → (length first < 3 * n) ⊎ (length second < 3 * n) → (T : Main) → n ≡ length (filterBy (holds b) (marksOf T))
+    short-answer : (n : ℕ) → (length first < listPlace n) ⊎ (length second < listPlace n) → (T : Main) → n ≡ length (filterBy (holds b) (marksOf T))
         → refusal 10 n ≡ answer call (stateOf xs T)
     unfolding enterBox
-    short-answer n (inl h) T e = rw (fine, ← e, lt-ltb (length first) (3 * n) h)
+    short-answer n (inl h) T e = rw (fine, ← e, lt-ltb (length first) (listPlace n) h)
     short-answer n (inr h) T e =
-        rw (fine, ← e, or-true-right (ltb (length first) (3 * n)) (ltb (length second) (3 * n)) (lt-ltb (length second) (3 * n) h))
+        rw (fine, ← e, or-true-right (ltb (length first) (listPlace n)) (ltb (length second) (listPlace n)) (lt-ltb (length second) (listPlace n) h))
 
     own-performs : {first′ second′ : List ℕ} {f : ListFigures} → ListsOwn b (ownVisits xs) (own xs) first second first′ second′ f
         → length first′ ≡ length first → length second′ ≡ length second
@@ -202,19 +215,19 @@ module _ (b : Box) (xs first second : List ℕ) where
         refused-later call (lends xs first second) 4 0 (omega arith) (λ z. refl) (refl, refl) (λ T k. absurd (wrong (record { tree = T; holding = k }))) no-row
         (unsound refl wrong)
     own-performs (short soon few h) sf ss =
-        refused-later call (lends xs first second) 10 (mainCount♯ (own xs) b / 4294967296) (omega arith) (λ z. refl) (refl, refl)
-        (λ T k. short-answer (mainCount♯ (own xs) b / 4294967296) h T (found-sound xs b fine T k ∙ sym (filterBy-length (holds b) (marksOf T))))
+        refused-later call (lends xs first second) 10 (foundIn (mainCount♯ (own xs) b)) (omega arith) (λ z. refl) (refl, refl)
+        (λ T k. short-answer (foundIn (mainCount♯ (own xs) b)) h T (found-sound xs b fine T k ∙ sym (filterBy-length (holds b) (marksOf T))))
         no-row (performs.short (counts-to xs table b soon few) h)
     own-performs {first′ = first′} {second′ = second′} (lists {f = f} soon few p q done) sf ss =
         let most = ownVisits xs in
-        let k = mainCount♯ (own xs) b / 4294967296 in
+        let k = foundIn (mainCount♯ (own xs) b) in
         let v = visits b most k xs first second first′ second′ p q sf ss in
         let l = listed-marks k v first′ second′ in
         let many = listed-many k v first′ second′ in
         subst (Performs call (lends xs first second) (lends xs first′ second′))
         (sym (ap (λ f. listGiven f first′ second′) (done .figures) ∙ given-listed k v first′ second′))
         (performs-kept call xs first second first′ second′ (listedIn (whichList (length l)) l v) (λ z. refl) (refl, refl) (λ z. absurd (z no-row))
-        (λ z. performs.lists (subst (λ n. CountsTo (own xs) b n (mainCount♯ (own xs) b % 4294967296)) (sym many) (counts-to xs table b soon few))
+        (λ z. performs.lists (subst (λ n. CountsTo (own xs) b n (visitsIn (mainCount♯ (own xs) b))) (sym many) (counts-to xs table b soon few))
         (rw many p) (rw many q))
         (listed-leaves b most k xs first second first′ second′ p q sf ss (done .long) (done .sorted)) (λ z. tt)
         (λ T h. (

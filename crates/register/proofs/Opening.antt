@@ -15,7 +15,7 @@ use Rattle.model.specs.Sheet.{Main}
 use Rattle.model.specs.Refusals.{refused, openTable}
 use Rattle.model.specs.History.{openFor, Answer, refusal, updated}
 use Rattle.model.proofs.Logic.{by-cases, clash}
-use Rattle.table.specs.Layout.{usedPlace, runPlace}
+use Rattle.table.specs.Layout.{armWidth, rootPlace, usedPlace, runPlace}
 use Rattle.table.specs.After.{After, after}
 use Rattle.twofold_layout.specs.Sound.{Holding}
 use Rattle.table.specs.Header.{capacityOf}
@@ -51,7 +51,7 @@ module _ (c : ℕ) (xs : List ℕ) where
     opened-own : Holding (own ys) none
     opened-own = rw (held-own opened-holding (drop (W c) xs)) opened-holding
 
-    opened-other : (i : ℕ) → 7 ≤ i → i < W c → (i < usedPlace c 0) ⊎ (runPlace c 0 ≤ i) → getD ys i 0 ≡ getD xs i 0
+    opened-other : (i : ℕ) → rootPlace + armWidth ≤ i → i < W c → (i < usedPlace c 0) ⊎ (runPlace c 0 ≤ i) → getD ys i 0 ≡ getD xs i 0
     opened-other i l h off =
         List·getD-append ws (drop (W c) xs) 0 i (omega (arith, own-long))
         ∙ empty-other c (take (W c) xs) (omega (arith, length-take-le (W c) xs room, W-header c)) i l off
@@ -76,7 +76,8 @@ module _ (c : ℕ) (xs : List ℕ) where
           spares = λ u. clash u refl;
         }
 
-  refused-performs : (n : ℕ) → openTable c (length xs) ≡ refused n → (n ≡ 0 → ⊥) → Performs (openFor c (length xs)) (alone xs) (alone xs) (refusal n 0)
+  refused-performs : (n : ℕ) → openTable c (length xs) ≡ refused n → (n ≡ 0 → ⊥)
+      → Performs (openFor c (length xs)) (alone xs) (alone xs) (refusal n 0)
   unfolding early
   refused-performs n e some = refused-early (openFor c (length xs)) (alone xs) n 0 some (λ z. refl) refl (λ T h. rw e) (rw e) refl
 

@@ -11,8 +11,8 @@ use borrow.Author.Tests.{eqb-true, eqb-false, eq-eqb, ne-eqb}
 use lib.Dec.{eqb}
 use Rattle.model.specs.Sizes.{W}
 use Rattle.model.specs.Tree.{marksOf}
-use Rattle.model.specs.Sheet.{Mark, Main, markOutside}
-use Rattle.model.specs.Refusals.{Outcome, accepted, refused, enterMark}
+use Rattle.model.specs.Sheet.{Mark, Main}
+use Rattle.model.specs.Refusals.{Outcome, accepted, refused}
 use Rattle.model.specs.History.{Call, State, Answer, refusal, updated, answer, next}
 use Rattle.model.proofs.Logic.{by-cases}
 use Rattle.table.specs.Layout.{openPlace}
@@ -59,7 +59,8 @@ module _ (c : Call) (xs f s f′ s′ : List ℕ) (a : Answer) where
 -- and one that is refused, with its number by an early row or a later one
 module _ (c : Call) (w : Lent) (n k : ℕ) (some : n ≢ 0) (shut : n ≡ 4 → updates c ≡ false) (lengths : LengthsOf c w)
     (says : (T : Main) → Holding (own (w .table)) T → refusal n k ≡ answer c (stateOf (w .table) T)) where
-  refused-performs : (early c (w .table) ≢ 0 → refusal n k ≡ refusal (early c (w .table)) 0) → (early c (w .table) ≡ 0 → Later (w .table) c (refusal n k))
+  refused-performs : (early c (w .table) ≢ 0 → refusal n k ≡ refusal (early c (w .table)) 0)
+      → (early c (w .table) ≡ 0 → Later (w .table) c (refusal n k))
       → Performs c w w (refusal n k)
   refused-performs refuses later =
       performs-kept c (w .table) (w .first) (w .second) (w .first) (w .second) (refusal n k) shut lengths refuses later
@@ -74,7 +75,8 @@ module _ (c : Call) (w : Lent) (n k : ℕ) (some : n ≢ 0) (shut : n ≡ 4 → 
 
 -- What an update does with the own words of a table that passed its early rows: it is refused, it closes the table, or it is accepted.
 pub data OwnUpdate (c : Call) (xs : List ℕ) : Answer → List ℕ → Type 0 where
-  refuses : {n : ℕ} → n ≢ 0 → n ≢ 4 → Later xs c (refusal n 0) → ((T : Main) → Holding (own xs) T → refusal n 0 ≡ answer c (stateOf (own xs) T))
+  refuses : {n : ℕ} → n ≢ 0 → n ≢ 4 → Later xs c (refusal n 0)
+      → ((T : Main) → Holding (own xs) T → refusal n 0 ≡ answer c (stateOf (own xs) T))
       → OwnUpdate c xs (refusal n 0) (own xs)
   closes : {ws : List ℕ} → (SoundTable (own xs) → ⊥) → getD ws openPlace 0 ≡ 0 → OwnUpdate c xs (refusal 4 0) ws
   accepts : {ws : List ℕ} {live rebuilt : ℕ} → Later xs c (updated live rebuilt)
@@ -83,14 +85,20 @@ pub data OwnUpdate (c : Call) (xs : List ℕ) : Answer → List ℕ → Type 0 w
       → ((T : Main) → Holding (own xs) T → Spares (own xs) ws)
       → OwnUpdate c xs (updated live rebuilt) ws
 
+-- a mark is turned away by a number that closes no table, or it is entered, and F holds of it
+pub data Entering (entering : Outcome Mark) (m : Mark) (F : Type 0) : Type 0 where
+  turned : {n : ℕ} → n ≢ 0 → n ≢ 4 → entering ≡ refused n → Entering entering m F
+  enters : F → entering ≡ accepted m → Entering entering m F
+
 -- the state of a sound table goes by its own words
 state-own : (xs : List ℕ) (T : Main) → stateOf (own xs) T ≡ stateOf xs T
 state-own xs T = ap (λ c. record { capacity = c; plain = marksOf T; tree = T }) (own-capacity xs)
 
--- what an update of the mark m does with a whole table, from what it does with the own words
-module _ (c : Call) (m : Mark) (xs : List ℕ) (lengths : LengthsOf c (alone xs)) (updating : updates c ≡ true) (reaches : reach c xs ≡ W (capacityOf xs))
-    (opens : opensTable c ≡ false) (notOne : notTable xs ≡ true → early c xs ≡ 3) (one : notTable xs ≡ false → early c xs ≡ numberOf (enterMark m))
-    (outside : (s : State) (n : ℕ) → enterMark m ≡ refused n → refusal n 0 ≡ answer c s) (starts : (ys : List ℕ) → Starts c xs ys) where
+-- what an update of a mark does with a whole table, by whether its mark is entered, from what it does with the own words
+module _ (c : Call) (m : Mark) (entering : Outcome Mark) (xs : List ℕ) (lengths : LengthsOf c (alone xs)) (updating : updates c ≡ true)
+    (reaches : reach c xs ≡ W (capacityOf xs))
+    (opens : opensTable c ≡ false) (notOne : notTable xs ≡ true → early c xs ≡ 3) (one : notTable xs ≡ false → early c xs ≡ numberOf entering)
+    (says : (s : State) (n : ℕ) → entering ≡ refused n → refusal n 0 ≡ answer c s) (starts : (ys : List ℕ) → Starts c xs ys) where
   abbrev beyond : List ℕ
   beyond = drop (W (capacityOf xs)) xs
 
@@ -139,34 +147,40 @@ module _ (c : Call) (m : Mark) (xs : List ℕ) (lengths : LengthsOf c (alone xs)
           ∙ getD-take (W (capacityOf xs)) xs i 0 inside;
     }
 
-  module _ (f : Mark → List ℕ → After Answer) (does : (ownWords xs ≡ 0 → ⊥) → markOutside m ≡ false → OwnUpdate c xs (f m (own xs) .out) (f m (own xs) .words))
-    where
-      module _ (p : After Answer) (is : p ≡ updateOwn f m xs) (long : length (p .words) ≡ length xs) where
-        not-table : eqb (ownWords xs) 0 ≡ true → Performs c (alone xs) (alone (updateOwn f m xs .words)) (updateOwn f m xs .out)
-        unfolding updateOwn onTable
-        not-table t =
-            let z = eqb-true (ownWords xs) 0 t in
-            rw t (refused-early c (alone xs) 3 0 (omega arith) (λ z. absurd (omega arith)) lengths (λ T h. absurd (sound-table xs h z))
-            (notOne (own-none xs z)) refl)
+  -- the mark is refused by an early row, or it is entered, and then F holds of it
+  module _ (F : Type 0) (f : Mark → List ℕ → After Answer)
+      (does : (ownWords xs ≡ 0 → ⊥) → F → OwnUpdate c xs (f m (own xs) .out) (f m (own xs) .words))
+      (p : After Answer) (is : p ≡ updateOwn entering f xs) (long : length (p .words) ≡ length xs) where
+    not-table : eqb (ownWords xs) 0 ≡ true → Performs c (alone xs) (alone (updateOwn entering f xs .words)) (updateOwn entering f xs .out)
+    unfolding updateOwn onTable
+    not-table t =
+        let z = eqb-true (ownWords xs) 0 t in
+        rw t (refused-early c (alone xs) 3 0 (omega arith) (λ z. absurd (omega arith)) lengths (λ T h. absurd (sound-table xs h z))
+        (notOne (own-none xs z)) refl)
 
-        outside-sheet : eqb (ownWords xs) 0 ≡ false → markOutside m ≡ true → Performs c (alone xs) (alone (updateOwn f m xs .words)) (updateOwn f m xs .out)
-        unfolding updateOwn onTable onAccepted enterMark
-        outside-sheet t u =
-            let z = eqb-false (ownWords xs) 0 t in
-            rw (t, u)
-            (refused-early c (alone xs) 5 0 (omega arith) (λ z. absurd (omega arith)) lengths (λ T h. outside (stateOf xs T) 5 (rw u))
-            (one (own-some xs z) ∙ rw u) refl)
+    not-entered : eqb (ownWords xs) 0 ≡ false → (n : ℕ) → n ≢ 0 → n ≢ 4 → entering ≡ refused n
+        → Performs c (alone xs) (alone (updateOwn entering f xs .words)) (updateOwn entering f xs .out)
+    unfolding updateOwn onTable onAccepted
+    not-entered t n some shut e =
+        let z = eqb-false (ownWords xs) 0 t in
+        rw (t, e)
+        (refused-early c (alone xs) n 0 some (λ z. absurd (shut z)) lengths (λ T h. says (stateOf xs T) n e) (one (own-some xs z) ∙ rw e) refl)
 
-        on-sheet : eqb (ownWords xs) 0 ≡ false → markOutside m ≡ false → Performs c (alone xs) (alone (updateOwn f m xs .words)) (updateOwn f m xs .out)
-        unfolding updateOwn onTable onAccepted within enterMark
-        on-sheet t u =
-            let z = eqb-false (ownWords xs) 0 t in
-            let k = own-table xs z .3 in
-            let l : length (updateOwn f m xs .words) ≡ length xs = ap (λ p. length (p .words)) (sym is) ∙ long in
-            let l′ : length (f m (own xs) .words ++ beyond) ≡ length xs = (rw (t, u, k) at l) in
-            rw (t, u, k) (lift z (one (own-some xs z) ∙ rw u) (does z u) l′)
+    on-sheet : eqb (ownWords xs) 0 ≡ false → F → entering ≡ accepted m
+        → Performs c (alone xs) (alone (updateOwn entering f xs .words)) (updateOwn entering f xs .out)
+    unfolding updateOwn onTable onAccepted within
+    on-sheet t u e =
+        let z = eqb-false (ownWords xs) 0 t in
+        let k = own-table xs z .3 in
+        let l : length (updateOwn entering f xs .words) ≡ length xs = ap (λ p. length (p .words)) (sym is) ∙ long in
+        let l′ : length (f m (own xs) .words ++ beyond) ≡ length xs = (rw (t, e, k) at l) in
+        rw (t, e, k) (lift z (one (own-some xs z) ∙ rw e) (does z u) l′)
 
-        pub update-performs : Performs c (alone xs) (alone (p .words)) (p .out)
-        update-performs =
-            subst (λ p. Performs c (alone xs) (alone (p .words)) (p .out)) (sym is)
-            (by-cases (eqb (ownWords xs) 0) not-table (λ t. by-cases (markOutside m) (outside-sheet t) (on-sheet t)))
+    by-entering : Entering entering m F → eqb (ownWords xs) 0 ≡ false
+        → Performs c (alone xs) (alone (updateOwn entering f xs .words)) (updateOwn entering f xs .out)
+    by-entering (turned {n} some shut e) t = not-entered t n some shut e
+    by-entering (enters u e) t = on-sheet t u e
+
+    pub update-performs : Entering entering m F → Performs c (alone xs) (alone (p .words)) (p .out)
+    update-performs enter =
+        subst (λ p. Performs c (alone xs) (alone (p .words)) (p .out)) (sym is) (by-cases (eqb (ownWords xs) 0) not-table (by-entering enter))

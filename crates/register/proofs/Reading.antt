@@ -19,53 +19,39 @@ use Rattle.model.proofs.Logic.{by-cases}
 use Rattle.table.specs.Limits.{damaged}
 use Rattle.model.proofs.Lists.{countIf-length}
 use Rattle.sizes.specs.Sizes.{visitsWithin}
-use Rattle.table.specs.Tally.{pack}
+use Rattle.table.specs.Figures.{foundIn, visitsIn}
 use Rattle.twofold_layout.specs.Sound.{Holding, SoundTable}
 use Rattle.table.specs.Header.{capacityOf, liveOf, notTable, ownWords, ownVisits}
 use Rattle.primary_search.specs.Count.{mainCount♯}
-use Rattle.whole_table.proofs.Searching.{holding-within, holding-small, count-sound, count-plain, count-within, count-most}
+use Rattle.whole_table.proofs.Searching.{holding-within, holding-small, count-within, count-found, count-visited, count-sum, count-worst}
 use Rattle.checking.specs.Verdict.{Verdict}
 use Rattle.checking.specs.Verdict as verdict
 use Rattle.table.proofs.Own.{own-most}
-use Rattle.register.specs.Performs.{alone, early, own, CountsTo, Later, counts, sound, unsound, stateOf, Performs}
+use Rattle.register.specs.Performs.{alone, early, own, sumBy, worstBy, CountsTo, Later, counts, sound, unsound, stateOf, Performs}
 use Rattle.register.specs.Mirrors.{orNumber, tallied, countOwn♯, count♯}
 use Rattle.register.proofs.Own.{own-none, own-some, own-capacity, own-live, own-is, sound-table}
 use Rattle.register.proofs.Performing.{no-lists, performs-kept, refused-early, refused-later}
 
--- what a tally of marks and visits says
-pub pack-visits : (k v : ℕ) → v < 4294967296 → pack k v % 4294967296 ≡ v
-pack-visits k v h = omega arith
-
-pub pack-found : (k v : ℕ) → v < 4294967296 → pack k v / 4294967296 ≡ k
-pack-found k v h = omega arith
-
-pack-both : (t : ℕ) → t ≡ pack (t / 4294967296) (t % 4294967296)
-pack-both t = omega arith
-
 module _ (xs : List ℕ) (b : Box) (fine : boxCrossed b ≡ false) (T : Main) (h : Holding (own xs) T) where
-  pub visits-sound : mainCount♯ (own xs) b % 4294967296 ≡ main .count b T .visits
-  visits-sound =
-      ap (λ t. t % 4294967296) (count-sound (own xs) T h b fine)
-      ∙ pack-visits (main .count b T .found) (main .count b T .visits) (omega (arith, count-most (own xs) T h b))
+  pub visits-sound : visitsIn (mainCount♯ (own xs) b) ≡ main .count b T .visits
+  visits-sound = count-visited (own xs) T h b fine
 
-  pub found-sound : mainCount♯ (own xs) b / 4294967296 ≡ countIf (holds b) (marksOf T)
-  found-sound =
-      ap (λ t. t / 4294967296) (count-sound (own xs) T h b fine)
-      ∙ pack-found (main .count b T .found) (main .count b T .visits) (omega (arith, count-most (own xs) T h b)) ∙ count-plain (own xs) T h b
+  pub found-sound : foundIn (mainCount♯ (own xs) b) ≡ countIf (holds b) (marksOf T)
+  found-sound = count-found (own xs) T h b fine
 
 -- the figures of the search by the words, and where they are damage
 module _ (xs : List ℕ) (table : ownWords xs ≡ 0 → ⊥) (b : Box) where
   abbrev found : ℕ
-  found = mainCount♯ (own xs) b / 4294967296
+  found = foundIn (mainCount♯ (own xs) b)
 
   abbrev visits : ℕ
-  visits = mainCount♯ (own xs) b % 4294967296
+  visits = visitsIn (mainCount♯ (own xs) b)
 
   pub own-limit : ownVisits xs ≡ visitsWithin (capacityOf (own xs))
   own-limit = own-most xs table ∙ ap visitsWithin (sym (own-capacity xs))
 
   pub counts-to : visits ≤ ownVisits xs → found ≤ liveOf (own xs) → CountsTo (own xs) b found visits
-  counts-to v k = record { tally = pack-both (mainCount♯ (own xs) b); few = k; soon = omega (arith, v, own-limit) }
+  counts-to v k = record { found = refl; visited = refl; few = k; soon = omega (arith, v, own-limit) }
 
   pub damage-unsound : boxCrossed b ≡ false → (ownVisits xs < visits) ⊎ (liveOf (own xs) < found) → SoundTable (own xs) → ⊥
   damage-unsound fine (inl h) k =
@@ -96,18 +82,21 @@ module _ (b : Box) (xs : List ℕ) where
         (unsound refl wrong)
 
     counted-performs : CountsTo (own xs) b (found xs table b) (visits xs table b)
-        → Performs (history.count b) (alone xs) (alone xs) (counted (found xs table b) (visits xs table b))
+        → Performs (history.count b) (alone xs) (alone xs) (counted (found xs table b) (visits xs table b) (sumBy (own xs) b) (worstBy (own xs) b))
     unfolding enterBox
     counted-performs h =
-        performs-kept (history.count b) xs [] [] [] [] (counted (found xs table b) (visits xs table b)) (λ z. refl) tt
+        performs-kept (history.count b) xs [] [] [] [] (counted (found xs table b) (visits xs table b) (sumBy (own xs) b) (worstBy (own xs) b)) (λ z. refl) tt
         (λ z. absurd (z no-row)) (λ z. counts h)
-        (no-lists (counted (found xs table b) (visits xs table b)) xs xs [] [] refl) (λ z. tt)
-        (λ T h. (rw entered (ap₂ counted (found-sound xs b entered T h) (visits-sound xs b entered T h)), count-keeps b (stateOf xs T)))
+        (no-lists (counted (found xs table b) (visits xs table b) (sumBy (own xs) b) (worstBy (own xs) b)) xs xs [] [] refl) (λ z. tt)
+        (λ T h. (
+          rw (entered, found-sound xs b entered T h, visits-sound xs b entered T h, count-sum (own xs) T h b entered, count-worst (own xs) T h b entered),
+          count-keeps b (stateOf xs T),
+        ))
 
     -- what is told, by the two tests
     told-performs : (late many : Bool) → ltb (ownVisits xs) (visits xs table b) ≡ late → ltb (liveOf (own xs)) (found xs table b) ≡ many
         → Performs (history.count b) (alone xs) (alone xs)
-        (if late then refusal 4 0 else (if many then refusal 4 0 else counted (found xs table b) (visits xs table b)))
+        (if late then refusal 4 0 else (if many then refusal 4 0 else counted (found xs table b) (visits xs table b) (sumBy (own xs) b) (worstBy (own xs) b)))
     told-performs true many t u = damage-performs (inl (ltb-true (ownVisits xs) (visits xs table b) t))
     told-performs false true f t = damage-performs (inr (ltb-true (liveOf (own xs)) (found xs table b) t))
     told-performs false false f g =

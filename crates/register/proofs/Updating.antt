@@ -10,8 +10,8 @@ use lib.ListN.{length, getD, set}
 use borrow.Author.Tests.{eqb-true, eqb-false, eq-eqb, ne-eqb, ltb-true, ltb-false}
 use Rattle.model.specs.Lists.{if_then_else_, countIf, insertSorted, removeFirst}
 use Rattle.model.specs.Tree.{marksOf}
-use Rattle.model.specs.Sheet.{Mark, Main, markOutside, same, belowX, alongX, auxiliary, main}
-use Rattle.model.specs.Refusals.{refused, enterMark}
+use Rattle.model.specs.Sheet.{Mark, Main, markOutside, gradeOutside, same, belowX, alongX, auxiliary, main}
+use Rattle.model.specs.Refusals.{enterMark, nameMark}
 use Rattle.model.specs.History.{State, Answer, refusal, updated, has, answer, next}
 use Rattle.model.specs.History as history
 use Rattle.model.proofs.Logic.{by-cases}
@@ -34,7 +34,7 @@ use Rattle.table.proofs.Own.{own-table}
 use Rattle.register.specs.Performs.{alone, early, own, Later, present, full, inserts, missing, strikes, stateOf, Performs}
 use Rattle.register.specs.Mirrors.{closed♯, settled♯, settledAfter, insertFound, insertOwn♯, insert♯, strikeFound, strikeOwn♯, strike♯}
 use Rattle.register.proofs.Own.{own-capacity, own-live}
-use Rattle.register.proofs.Performing.{OwnUpdate, refuses, closes, accepts, update-performs}
+use Rattle.register.proofs.Performing.{OwnUpdate, refuses, closes, accepts, Entering, turned, enters, update-performs}
 
 -- a table that was closed
 shut : (l : List ℕ) → getD (set l openPlace 0) openPlace 0 ≡ 0
@@ -60,7 +60,8 @@ module _ (zs : List ℕ) (T : Main) (h : Holding zs T) (m : Mark) where
 
 -- INSERTION
 
-module _ (m : Mark) (on : markOutside m ≡ false) (xs : List ℕ) (small : capacityOf xs ≤ 65536) (fits : liveOf xs ≤ capacityOf xs) where
+module _ (m : Mark) (on : markOutside m ≡ false) (graded : gradeOutside m ≡ false) (xs : List ℕ) (small : capacityOf xs ≤ 65536)
+    (fits : liveOf xs ≤ capacityOf xs) where
   abbrev zs : List ℕ
   zs = own xs
 
@@ -72,12 +73,12 @@ module _ (m : Mark) (on : markOutside m ≡ false) (xs : List ℕ) (small : capa
 
   insert-present : find♯ zs m ≢ absent → (T : Main) → Holding zs T → refusal 8 0 ≡ answer (history.insert m) (stateOf zs T)
   unfolding enterMark
-  insert-present ne T h = rw (on, slot-has zs T h m ne)
+  insert-present ne T h = rw (on, graded, slot-has zs T h m ne)
 
   module _ (new : find♯ zs m ≡ absent) where
     insert-full : liveOf zs ≡ capacityOf zs → (T : Main) → Holding zs T → refusal 7 0 ≡ answer (history.insert m) (stateOf zs T)
     unfolding enterMark
-    insert-full e T h = rw (on, slot-lacks zs T h m new, eq-eqb (length (marksOf T)) (capacityOf zs) (sym (h .live) ∙ e))
+    insert-full e T h = rw (on, graded, slot-lacks zs T h m new, eq-eqb (length (marksOf T)) (capacityOf zs) (sym (h .live) ∙ e))
 
     module _ (room : liveOf zs ≢ capacityOf zs) where
       abbrev p : After ℕ
@@ -91,18 +92,18 @@ module _ (m : Mark) (on : markOutside m ≡ false) (xs : List ℕ) (small : capa
         spare = omega (arith, h .live, fits, own-live xs, own-capacity xs, room)
 
         insert-fine : p .out ≢ damaged
-        insert-fine = insert-sound zs T h m on lacks spare .2
+        insert-fine = insert-sound zs T h m on graded lacks spare .2
 
         insert-live : liveOf (p .words) ≡ length (insertSorted belowX m (marksOf T))
-        insert-live = insert-sound zs T h m on lacks spare .0 .live ∙ ap length (main-insert-marks m T (holding-agrees zs T h .sorted))
+        insert-live = insert-sound zs T h m on graded lacks spare .0 .live ∙ ap length (main-insert-marks m T (holding-agrees zs T h .sorted))
 
         insert-goes : (updated (liveOf (p .words)) (p .out) ≡ answer (history.insert m) (stateOf zs T))
             × (capacityOf (p .words) ≡ next (history.insert m) (stateOf zs T) .capacity) × Holding (p .words) (next (history.insert m) (stateOf zs T) .tree)
         unfolding enterMark
         insert-goes =
-            let k = insert-sound zs T h m on lacks spare in
-            rw (on, slot-lacks zs T h m new, ne-eqb (length (marksOf T)) (capacityOf zs) (omega (arith, spare)))
-            (ap₂ updated insert-live (k .1), insert-capacity zs T h m on lacks spare, k .0)
+            let k = insert-sound zs T h m on graded lacks spare in
+            rw (on, graded, slot-lacks zs T h m new, ne-eqb (length (marksOf T)) (capacityOf zs) (omega (arith, spare)))
+            (ap₂ updated insert-live (k .1), insert-capacity zs T h m on graded lacks spare, k .0)
 
       settle-insert : OwnUpdate (history.insert m) xs (settledAfter p .out) (settledAfter p .words)
       unfolding settledAfter settled♯ closed♯
@@ -110,7 +111,7 @@ module _ (m : Mark) (on : markOutside m ≡ false) (xs : List ℕ) (small : capa
           by-cases (eqb (p .out) damaged)
           (λ t. rw t (closes (λ k. insert-fine (k .tree) (k .holding) (eqb-true (p .out) damaged t)) (shut (p .words))))
           (λ f. rw f (accepts (inserts (find-lacks zs m slots-small new) (omega (arith, fits, own-live xs, own-capacity xs, room))) insert-goes
-          (λ T h. insert-unused zs T h m on (lacks T h) (spare T h))))
+          (λ T h. insert-unused zs T h m on graded (lacks T h) (spare T h))))
 
   -- what is done with a mark that is not there, by the test for room
   abbrev newMark : Bool → After Answer
@@ -132,7 +133,7 @@ module _ (m : Mark) (on : markOutside m ≡ false) (xs : List ℕ) (small : capa
       (λ t. rw (f, t) (insert-new (eqb-true (find♯ zs m) absent t) (eqb (liveOf zs) (capacityOf zs)) refl))
       (λ u.
       let has = eqb-false (find♯ zs m) absent u in
-      rw (f, u) (refuses {n = 8} (omega arith) (omega arith) (present (find-finds zs m slots-small (eqb-false (find♯ zs m) damaged f) has))
+      rw (f, u) (refuses {n = 8} (omega arith) (omega arith) (present (find-finds zs m (eqb-false (find♯ zs m) damaged f) has))
       (insert-present has))))
 
 -- STRIKE
@@ -145,12 +146,12 @@ module _ (m : Mark) (on : markOutside m ≡ false) (xs : List ℕ) (small : capa
   few-slots = omega (arith, small, own-capacity xs)
 
   strike-missing : find♯ ws m ≡ absent → (T : Main) → Holding ws T → refusal 9 0 ≡ answer (history.strike m) (stateOf ws T)
-  unfolding enterMark
+  unfolding nameMark
   strike-missing e T h = rw (on, slot-lacks ws T h m e)
 
   module _ (fine : find♯ ws m ≢ damaged) (old : find♯ ws m ≢ absent) where
     abbrev q : After ℕ
-    q = tableStrike♯ m (find♯ ws m) ws
+    q = tableStrike♯ (find♯ ws m) ws
 
     module _ (T : Main) (h : Holding ws T) where
       stands : 0 < countIf (same m) (marksOf T)
@@ -161,7 +162,7 @@ module _ (m : Mark) (on : markOutside m ≡ false) (xs : List ℕ) (small : capa
 
       strike-goes : (updated (liveOf (q .words)) (q .out) ≡ answer (history.strike m) (stateOf ws T))
           × (capacityOf (q .words) ≡ next (history.strike m) (stateOf ws T) .capacity) × Holding (q .words) (next (history.strike m) (stateOf ws T) .tree)
-      unfolding enterMark
+      unfolding nameMark
       strike-goes =
           let k = strike-sound ws T h m stands in
           rw (on, slot-has ws T h m old) (ap₂ updated strike-live (k .1), strike-capacity ws T h m stands, k .0)
@@ -171,7 +172,7 @@ module _ (m : Mark) (on : markOutside m ≡ false) (xs : List ℕ) (small : capa
     settle-strike =
         by-cases (eqb (q .out) damaged)
         (λ t. rw t (closes (λ k. strike-sound ws (k .tree) (k .holding) m (stands (k .tree) (k .holding)) .2 (eqb-true (q .out) damaged t)) (shut (q .words))))
-        (λ f. rw f (accepts (strikes (find-finds ws m few-slots fine old)) strike-goes (λ T h. strike-unused ws T h m (stands T h))))
+        (λ f. rw f (accepts (strikes (find-finds ws m fine old)) strike-goes (λ T h. strike-unused ws T h m (stands T h))))
 
   strike-own : OwnUpdate (history.strike m) xs (strikeOwn♯ m ws .out) (strikeOwn♯ m ws .words)
   unfolding strikeOwn♯ strikeFound closed♯
@@ -186,15 +187,30 @@ module _ (m : Mark) (on : markOutside m ≡ false) (xs : List ℕ) (small : capa
 
 -- THE CALLS
 
-module _ (m : Mark) (xs ys : List ℕ) (a : Answer) (long : length ys ≡ length xs) where
-  pub insert-performs : after a ys ≡ insert♯ m xs → Performs (history.insert m) (alone xs) (alone ys) a
-  unfolding insert♯ early enterMark
-  insert-performs e =
-      update-performs (history.insert m) m xs tt refl refl refl (λ t. rw t) (λ f. rw f) (λ s n k. rw k) (λ ys. tt) insertOwn♯
-      (λ table on. insert-own m on xs (capacity-small (capacityOf xs) (own-table xs table .1)) (own-table xs table .2)) (after a ys) e long
+module _ (m : Mark) where
+  inserts-mark : Entering (enterMark m) m ((markOutside m ≡ false) × (gradeOutside m ≡ false))
+  unfolding enterMark
+  inserts-mark =
+      by-cases (markOutside m)
+      (λ t. turned {n = 5} (omega arith) (omega arith) (rw t))
+      (λ f. by-cases (gradeOutside m) (λ t. turned {n = 12} (omega arith) (omega arith) (rw (f, t))) (λ g. enters (f, g) (rw (f, g))))
 
-  pub strike-performs : after a ys ≡ strike♯ m xs → Performs (history.strike m) (alone xs) (alone ys) a
-  unfolding strike♯ early enterMark
-  strike-performs e =
-      update-performs (history.strike m) m xs tt refl refl refl (λ t. rw t) (λ f. rw f) (λ s n k. rw k) (λ ys. tt) strikeOwn♯
-      (λ table on. strike-own m on xs (capacity-small (capacityOf xs) (own-table xs table .1))) (after a ys) e long
+  names-mark : Entering (nameMark m) m (markOutside m ≡ false)
+  unfolding nameMark
+  names-mark = by-cases (markOutside m) (λ t. turned {n = 5} (omega arith) (omega arith) (rw t)) (λ f. enters f (rw f))
+
+  module _ (xs ys : List ℕ) (a : Answer) (long : length ys ≡ length xs) where
+    pub insert-performs : after a ys ≡ insert♯ m xs → Performs (history.insert m) (alone xs) (alone ys) a
+    unfolding insert♯ early
+    insert-performs e =
+        update-performs (history.insert m) m (enterMark m) xs tt refl refl refl (λ t. rw t) (λ f. rw f) (λ s n k. rw k) (λ ys. tt)
+        ((markOutside m ≡ false) × (gradeOutside m ≡ false)) insertOwn♯
+        (λ table on. insert-own m (on .0) (on .1) xs (capacity-small (capacityOf xs) (own-table xs table .1))
+        (own-table xs table .2)) (after a ys) e long inserts-mark
+
+    pub strike-performs : after a ys ≡ strike♯ m xs → Performs (history.strike m) (alone xs) (alone ys) a
+    unfolding strike♯ early
+    strike-performs e =
+        update-performs (history.strike m) m (nameMark m) xs tt refl refl refl (λ t. rw t) (λ f. rw f) (λ s n k. rw k) (λ ys. tt)
+        (markOutside m ≡ false) strikeOwn♯
+        (λ table on. strike-own m on xs (capacity-small (capacityOf xs) (own-table xs table .1))) (after a ys) e long names-mark

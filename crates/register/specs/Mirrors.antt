@@ -8,10 +8,12 @@ use lib.Dec.{ltb, eqb}
 use lib.ListN.{length, getD, set, take, drop}
 use Rattle.model.specs.Lists.{if_then_else_}
 use Rattle.model.specs.Sheet.{Mark, Box, belowX}
-use Rattle.model.specs.Refusals.{Outcome, accepted, refused, openTable, enterMark, enterBox}
+use Rattle.model.specs.Refusals.{Outcome, accepted, refused, openTable, enterMark, nameMark, enterBox}
 use Rattle.model.specs.History.{Answer, refusal, updated, counted, whichList}
-use Rattle.table.specs.Layout.{openPlace, capacityPlace, livePlace}
+use Rattle.table.specs.Layout.{openPlace, capacityPlace, livePlace, listPlace}
 use Rattle.table.specs.Limits.{damaged, absent}
+use Rattle.table.specs.Grades.{sumOf, worstOf}
+use Rattle.table.specs.Figures.{foundIn, visitsIn, gradesIn}
 use Rattle.table.specs.After.{After, after}
 use Rattle.primary_search.specs.Find.{find♯}
 use Rattle.primary_search.specs.Count.{mainCount♯}
@@ -56,24 +58,24 @@ insertFound m s xs =
 unfoldable pub insertOwn♯ : Mark → List ℕ → After Answer
 insertOwn♯ m xs = insertFound m (find♯ xs m) xs
 
-unfoldable pub strikeFound : Mark → ℕ → List ℕ → After Answer
-strikeFound m s xs = onFound s xs (after (refusal 9 0) xs) (settledAfter (tableStrike♯ m s xs))
+unfoldable pub strikeFound : ℕ → List ℕ → After Answer
+strikeFound s xs = onFound s xs (after (refusal 9 0) xs) (settledAfter (tableStrike♯ s xs))
 
 unfoldable pub strikeOwn♯ : Mark → List ℕ → After Answer
-strikeOwn♯ m xs = strikeFound m (find♯ xs m) xs
+strikeOwn♯ m xs = strikeFound (find♯ xs m) xs
 
 -- a table's own words, or the refusal 3
 unfoldable pub onTable : List ℕ → (ℕ → After Answer) → After Answer
 onTable xs f = if eqb (ownWords xs) 0 then after (refusal 3 0) xs else f (ownWords xs)
 
-unfoldable pub updateOwn : (Mark → List ℕ → After Answer) → Mark → List ℕ → After Answer
-updateOwn f m xs = onTable xs (λ n. onAccepted (enterMark m) xs (λ m. within n xs (f m (take n xs))))
+unfoldable pub updateOwn : Outcome Mark → (Mark → List ℕ → After Answer) → List ℕ → After Answer
+updateOwn entered f xs = onTable xs (λ n. onAccepted entered xs (λ m. within n xs (f m (take n xs))))
 
 unfoldable pub insert♯ : Mark → List ℕ → After Answer
-insert♯ m xs = updateOwn insertOwn♯ m xs
+insert♯ m xs = updateOwn (enterMark m) insertOwn♯ xs
 
 unfoldable pub strike♯ : Mark → List ℕ → After Answer
-strike♯ m xs = updateOwn strikeOwn♯ m xs
+strike♯ m xs = updateOwn (nameMark m) strikeOwn♯ xs
 
 -- calls that only read
 unfoldable pub orNumber : {A : Type 0} → Outcome A → (A → Answer) → Answer
@@ -83,8 +85,8 @@ orNumber (refused n) f = refusal n 0
 -- a tally, with the most visits and the live marks that it may tell of
 unfoldable pub tallied : ℕ → ℕ → ℕ → Answer
 tallied most live t =
-    if ltb most (t % 4294967296) then refusal 4 0
-    else (if ltb live (t / 4294967296) then refusal 4 0 else counted (t / 4294967296) (t % 4294967296))
+    if ltb most (visitsIn t) then refusal 4 0
+    else (if ltb live (foundIn t) then refusal 4 0 else counted (foundIn t) (visitsIn t) (sumOf (gradesIn t)) (worstOf (gradesIn t)))
 
 unfoldable pub countOwn♯ : ℕ → Box → List ℕ → Answer
 countOwn♯ most b xs = tallied most (getD xs livePlace 0) (mainCount♯ xs b)
@@ -96,24 +98,24 @@ count♯ b xs = if eqb (ownWords xs) 0 then refusal 3 0 else orNumber (enterBox 
 module _ (b : Box) (most : ℕ) where
   -- k marks listed into the first list, then sorted
   pub record ListedOwn (k : ℕ) (xs first second first′ second′ : List ℕ) (f : ListFigures) : Type 0 where
-    pub long : length (mainList♯ xs b (most + 2 * k) (take (3 * k) first) .words) ≡ length (take (3 * k) first)
+    pub long : length (mainList♯ xs b (most + 2 * k) (take (listPlace k) first) .words) ≡ length (take (listPlace k) first)
     pub figures : f ≡ record {
       number = 0;
       k = k;
-      visits = mainList♯ xs b (most + 2 * k) (take (3 * k) first) .out % 4294967296;
+      visits = mainList♯ xs b (most + 2 * k) (take (listPlace k) first) .out % 4294967296;
       which = whichList k;
     }
-    pub sorted : SortedIn belowX k (mainList♯ xs b (most + 2 * k) (take (3 * k) first) .words ++ drop (3 * k) first) second first′ second′
+    pub sorted : SortedIn belowX k (mainList♯ xs b (most + 2 * k) (take (listPlace k) first) .words ++ drop (listPlace k) first) second first′ second′
 
   pub data ListsOwn (xs first second : List ℕ) : List ℕ → List ℕ → ListFigures → Type 0 where
-    lost : (most < mainCount♯ xs b % 4294967296) ⊎ (getD xs livePlace 0 < mainCount♯ xs b / 4294967296)
+    lost : (most < visitsIn (mainCount♯ xs b)) ⊎ (getD xs livePlace 0 < foundIn (mainCount♯ xs b))
         → ListsOwn xs first second first second (listRefused 4 0)
-    short : mainCount♯ xs b % 4294967296 ≤ most → mainCount♯ xs b / 4294967296 ≤ getD xs livePlace 0
-        → (length first < 3 * (mainCount♯ xs b / 4294967296)) ⊎ (length second < 3 * (mainCount♯ xs b / 4294967296))
-        → ListsOwn xs first second first second (listRefused 10 (mainCount♯ xs b / 4294967296))
-    lists : {first′ second′ : List ℕ} {f : ListFigures} → mainCount♯ xs b % 4294967296 ≤ most → mainCount♯ xs b / 4294967296 ≤ getD xs livePlace 0
-        → 3 * (mainCount♯ xs b / 4294967296) ≤ length first → 3 * (mainCount♯ xs b / 4294967296) ≤ length second
-        → ListedOwn (mainCount♯ xs b / 4294967296) xs first second first′ second′ f → ListsOwn xs first second first′ second′ f
+    short : visitsIn (mainCount♯ xs b) ≤ most → foundIn (mainCount♯ xs b) ≤ getD xs livePlace 0
+        → (length first < listPlace (foundIn (mainCount♯ xs b))) ⊎ (length second < listPlace (foundIn (mainCount♯ xs b)))
+        → ListsOwn xs first second first second (listRefused 10 (foundIn (mainCount♯ xs b)))
+    lists : {first′ second′ : List ℕ} {f : ListFigures} → visitsIn (mainCount♯ xs b) ≤ most → foundIn (mainCount♯ xs b) ≤ getD xs livePlace 0
+        → listPlace (foundIn (mainCount♯ xs b)) ≤ length first → listPlace (foundIn (mainCount♯ xs b)) ≤ length second
+        → ListedOwn (foundIn (mainCount♯ xs b)) xs first second first′ second′ f → ListsOwn xs first second first′ second′ f
 
 module _ (b : Box) where
   pub data Lists (xs first second : List ℕ) : List ℕ → List ℕ → ListFigures → Type 0 where

@@ -1,6 +1,6 @@
 -- What a call does, on any words whatever (document 01, "Where each call may stop"): the one definition that the contracts of all six calls cite, and of
 -- which a run is made (Run). Assumes nothing.
-use Prim.Native.Nat.{ℕ, _*_, _≤_, _<_}
+use Prim.Native.Nat.{ℕ, _+_, _≤_, _<_}
 use mathlib.Core.Path.{_≡_}
 use mathlib.Core.Logic.{_≢_, _⊎_}
 use mathlib.Core.Bool.{Bool, true, false}
@@ -11,12 +11,13 @@ use Rattle.model.specs.Lists.{if_then_else_}
 use Rattle.model.specs.Sizes.{W}
 use Rattle.model.specs.Tree.{marksOf}
 use Rattle.model.specs.Sheet.{Mark, Box, Main}
-use Rattle.model.specs.Refusals.{Outcome, accepted, refused, openTable, enterMark, enterBox}
+use Rattle.model.specs.Refusals.{Outcome, accepted, refused, openTable, enterMark, nameMark, enterBox}
 use Rattle.model.specs.History.{Call, openFor, insert, strike, count, list, check, State, Answer, refusal, updated, counted, listedIn, whichList, answer, next}
-use Rattle.table.specs.Layout.{openPlace, usedPlace, runPlace}
+use Rattle.table.specs.Layout.{armWidth, openPlace, rootPlace, usedPlace, runPlace, listPlace}
 use Rattle.sizes.specs.Sizes.{visitsWithin}
 use Rattle.table.specs.Marks.{markWords}
-use Rattle.table.specs.Tally.{pack}
+use Rattle.table.specs.Grades.{sumOf, worstOf}
+use Rattle.table.specs.Figures.{foundIn, visitsIn, gradesIn}
 use Rattle.twofold_layout.specs.Sound.{Holding, SoundTable}
 use Rattle.table.specs.Header.{capacityOf, liveOf, notTable}
 use Rattle.twofold_layout.specs.Gaps.{Unused}
@@ -45,7 +46,7 @@ LengthsOf (strike m) w = Unit {0}
 LengthsOf (count b) w = Unit {0}
 LengthsOf check w = Unit {0}
 
--- The rows that go by arguments, lengths and header alone, first of those that apply: 1, 2; 3, 5; 3, 6; 3. 0 where none does.
+-- The rows that go by arguments, lengths and header alone, first of those that apply: 1, 2; 3, 5, 12; 3, 5; 3, 6; 3. 0 where none does.
 abbrev pub numberOf : {A : Type 0} → Outcome A → ℕ
 numberOf (accepted a) = 0
 numberOf (refused n) = n
@@ -53,7 +54,7 @@ numberOf (refused n) = n
 unfoldable pub early : Call → List ℕ → ℕ
 early (openFor c words) xs = numberOf (openTable c words)
 early (insert m) xs = if notTable xs then 3 else numberOf (enterMark m)
-early (strike m) xs = if notTable xs then 3 else numberOf (enterMark m)
+early (strike m) xs = if notTable xs then 3 else numberOf (nameMark m)
 early (count b) xs = if notTable xs then 3 else numberOf (enterBox b)
 early (list b first second) xs = if notTable xs then 3 else numberOf (enterBox b)
 early check xs = if notTable xs then 3 else 0
@@ -79,11 +80,18 @@ updates (count b) = false
 updates (list b first second) = false
 updates check = false
 
--- What the search of a count comes to by the words: on a sound table the marks that the box holds and the written search's visits (`Follows`); on any other
--- figures without meaning, of which is known that `mainCount♯`, the code step by step, gives them. Figures that no sound table with this header can have, more
--- marks than live or more visits than (4D + 1)(2D + 1) for D(C), are damage.
+-- What the search of a count comes to by the words: on a sound table the marks that the box holds, their grades' sum and worst and the written search's visits
+-- (`Follows`); on any other figures without meaning, of which is known that `mainCount♯`, the code step by step, gives them. Figures that no sound table with
+-- this header can have, more marks than live or more visits than (4D + 1)(2D + 1) for D(C), are damage.
+abbrev pub sumBy : List ℕ → Box → ℕ
+sumBy xs b = sumOf (gradesIn (mainCount♯ xs b))
+
+abbrev pub worstBy : List ℕ → Box → ℕ
+worstBy xs b = worstOf (gradesIn (mainCount♯ xs b))
+
 pub record CountsTo (xs : List ℕ) (b : Box) (k visits : ℕ) : Type 0 where
-  pub tally : mainCount♯ xs b ≡ pack k visits
+  pub found : k ≡ foundIn (mainCount♯ xs b)
+  pub visited : visits ≡ visitsIn (mainCount♯ xs b)
   pub few : k ≤ liveOf xs
   pub soon : visits ≤ visitsWithin (capacityOf xs)
 
@@ -97,10 +105,11 @@ pub data Later (xs : List ℕ) : Call → Answer → Type 0 where
   inserts : {m : Mark} {live rebuilt : ℕ} → Lacks (own xs) m → liveOf xs < capacityOf xs → Later xs (insert m) (updated live rebuilt)
   missing : {m : Mark} → Lacks (own xs) m → Later xs (strike m) (refusal 9 0)
   strikes : {m : Mark} {s live rebuilt : ℕ} → Finds (own xs) m s → Later xs (strike m) (updated live rebuilt)
-  counts : {b : Box} {k visits : ℕ} → CountsTo (own xs) b k visits → Later xs (count b) (counted k visits)
-  short : {b : Box} {first second k visits : ℕ} → CountsTo (own xs) b k visits → (first < 3 * k) ⊎ (second < 3 * k)
+  counts : {b : Box} {k visits : ℕ} → CountsTo (own xs) b k visits → Later xs (count b) (counted k visits (sumBy (own xs) b) (worstBy (own xs) b))
+  short : {b : Box} {first second k visits : ℕ} → CountsTo (own xs) b k visits → (first < listPlace k) ⊎ (second < listPlace k)
       → Later xs (list b first second) (refusal 10 k)
-  lists : {b : Box} {first second counted visits : ℕ} {l : List Mark} → CountsTo (own xs) b (length l) counted → 3 * length l ≤ first → 3 * length l ≤ second
+  lists : {b : Box} {first second counted visits : ℕ} {l : List Mark} → CountsTo (own xs) b (length l) counted → listPlace (length l) ≤ first
+      → listPlace (length l) ≤ second
       → Later xs (list b first second) (listedIn (whichList (length l)) l visits)
   sound : {T : Main} → Holding (own xs) T → Later xs check (updated (length (marksOf T)) 0)
   unsound : {c : Call} → opensTable c ≡ false → (SoundTable (own xs) → ⊥) → Later xs c (refusal 4 0)
@@ -122,19 +131,19 @@ pub data Leaves (c : Call) (xs : List ℕ) : ℕ → List ℕ → Type 0 where
   closed : {ys : List ℕ} → updates c ≡ true → getD ys openPlace 0 ≡ 0 → length ys ≡ length xs → drop (reach c xs) ys ≡ drop (reach c xs) xs
       → Leaves c xs 4 ys
 
--- What it leaves in the lists (document 01, "The list"): the marks listed, "Three words a mark", in the list that `which` names; "Words past 3k are
+-- What it leaves in the lists (document 01, "The list"): the marks listed, "four words a mark" (R-1), in the list that `which` names; words past them "are
 -- unchanged in both". A refusal lists nothing, so it changes no word.
 pub record LeavesLists (a : Answer) (before after : Lent) : Type 0 where
-  pub answer : take (3 * length (a .listed)) (inList (a .which) (after .first) (after .second)) ≡ markWords (a .listed)
-  pub pastFirst : drop (3 * length (a .listed)) (after .first) ≡ drop (3 * length (a .listed)) (before .first)
-  pub pastSecond : drop (3 * length (a .listed)) (after .second) ≡ drop (3 * length (a .listed)) (before .second)
+  pub answer : take (listPlace (length (a .listed))) (inList (a .which) (after .first) (after .second)) ≡ markWords (a .listed)
+  pub pastFirst : drop (listPlace (length (a .listed))) (after .first) ≡ drop (listPlace (length (a .listed))) (before .first)
+  pub pastSecond : drop (listPlace (length (a .listed))) (after .second) ≡ drop (listPlace (length (a .listed))) (before .second)
 
--- an accepted open leaves a sound table of that capacity without marks, whatever the words were; it writes words 0 to 6 and the two lists of slots, and no
+-- an accepted open leaves a sound table of that capacity without marks, whatever the words were; it writes words 0 to 7 and the two lists of slots, and no
 -- other
 abbrev pub Starts : Call → List ℕ → List ℕ → Type 0
 Starts (openFor c words) xs ys =
     (capacityOf ys ≡ c) × Holding (own ys) none
-    × ((i : ℕ) → 7 ≤ i → i < W c → (i < usedPlace c 0) ⊎ (runPlace c 0 ≤ i) → getD ys i 0 ≡ getD xs i 0)
+    × ((i : ℕ) → rootPlace + armWidth ≤ i → i < W c → (i < usedPlace c 0) ⊎ (runPlace c 0 ≤ i) → getD ys i 0 ≡ getD xs i 0)
 Starts (insert m) xs ys = Unit {0}
 Starts (strike m) xs ys = Unit {0}
 Starts (count b) xs ys = Unit {0}

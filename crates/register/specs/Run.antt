@@ -10,6 +10,7 @@ use Rattle.model.specs.Sizes.{D}
 use Rattle.model.specs.Sheet.{sheet, alongX}
 use Rattle.model.specs.Laws.{Sorted, Distinct}
 use Rattle.model.specs.History.{Call, openFor, State, Answer, answer, next}
+use Rattle.table.specs.Layout.{listPlace}
 use Rattle.table.specs.Marks.{markWords}
 use Rattle.register.specs.Answers.{inList}
 use Rattle.register.specs.Performs.{Lent, Performs}
@@ -24,7 +25,8 @@ pub record Made : Type 0 where
 -- the calls made from a table on
 pub data Calls : List ℕ → List Made → Type 0 where
   none : {xs : List ℕ} → Calls xs []
-  then : {m : Made} {ms : List Made} → Performs (m .call) (m .before) (m .after) (m .answer) → Calls (m .after .table) ms → Calls (m .before .table) (m ∷ ms)
+  then : {m : Made} {ms : List Made} → Performs (m .call) (m .before) (m .after) (m .answer) → Calls (m .after .table) ms
+      → Calls (m .before .table) (m ∷ ms)
 
 -- a run from the table xs: its first call is an open, of that capacity on that many words, and is accepted
 pub record Run (xs : List ℕ) (m : Made) (ms : List Made) : Type 0 where
@@ -35,12 +37,13 @@ pub record Run (xs : List ℕ) (m : Made) (ms : List Made) : Type 0 where
   pub calls : Calls xs (m ∷ ms)
 
 -- "Beside it goes a plain list of marks": what a call of a run gives, where s is the plain list and the tree that the accepted calls before it make. All
--- figures are those of the history's step, "'Rebuilt' and visits .. those that the rules above give on the tree"; an accepted list's marks stand as words
+-- figures, the sum of grades and the worst among them, are those of the history's step, "'Rebuilt' and visits .. those that the rules above give on
+-- the tree"; an accepted list's marks stand as words
 -- in the lent list that the answer names. "No step gives 3 or 4". "The n of the bound is the plain list's length"; a list of k marks visits at most 2k more.
 -- The plain list that the call leaves is "ascending by x, y, tag", each mark once, and no longer than the capacity.
 pub record AsPlain (s : State) (m : Made) : Type 0 where
   pub answers : m .answer ≡ answer (m .call) s
-  pub words : take (3 * length (answer (m .call) s .listed)) (inList (m .answer .which) (m .after .first) (m .after .second))
+  pub words : take (listPlace (length (answer (m .call) s .listed))) (inList (m .answer .which) (m .after .first) (m .after .second))
       ≡ markWords (answer (m .call) s .listed)
   pub not-3 : m .answer .number ≢ 3
   pub not-4 : m .answer .number ≢ 4

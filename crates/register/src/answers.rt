@@ -15,15 +15,16 @@ pub enum Update {
     Done(u32, u32),
     NotTable,
     Outside,
+    Ungraded,
     Present,
     Full,
     Absent,
     Unsound,
 }
 
-// The marks that the box holds, and the visits.
+// The marks that the box holds, the visits, the sum of their grades and the worst.
 pub enum Count {
-    Counted(u32, u32),
+    Counted(u32, u32, u32, u32),
     NotTable,
     Crossed,
     Unsound,
@@ -81,16 +82,20 @@ pub struct CountFigures {
     pub number: u32,
     pub marks: u32,
     pub visits: u32,
+    pub sum: u32,
+    pub worst: u32,
 }
 
 impl CountFigures {
     fn refused(number: u32) -> CountFigures
-        ensures { λ r. ⌜ countGiven (r .number) (r .marks) (r .visits) ≡ refusal number 0 ⌝ }
+        ensures { λ r. ⌜ countGiven (r .number) (r .marks) (r .visits) (r .sum) (r .worst) ≡ refusal number 0 ⌝ }
     {
         CountFigures {
             number,
             marks: 0,
             visits: 0,
+            sum: 0,
+            worst: 0,
         }
     }
 }
@@ -139,6 +144,7 @@ impl Update {
             },
             Update::NotTable => UpdateFigures::refused(3),
             Update::Outside => UpdateFigures::refused(5),
+            Update::Ungraded => UpdateFigures::refused(12),
             Update::Present => UpdateFigures::refused(8),
             Update::Full => UpdateFigures::refused(7),
             Update::Absent => UpdateFigures::refused(9),
@@ -149,13 +155,15 @@ impl Update {
 
 impl Count {
     pub fn figures(self) -> CountFigures
-        ensures { λ r. ⌜ countGiven (r .number) (r .marks) (r .visits) ≡ countAnswer self ⌝ }
+        ensures { λ r. ⌜ countGiven (r .number) (r .marks) (r .visits) (r .sum) (r .worst) ≡ countAnswer self ⌝ }
     {
         match self {
-            Count::Counted(marks, visits) => CountFigures {
+            Count::Counted(marks, visits, sum, worst) => CountFigures {
                 number: 0,
                 marks,
                 visits,
+                sum,
+                worst,
             },
             Count::NotTable => CountFigures::refused(3),
             Count::Crossed => CountFigures::refused(6),

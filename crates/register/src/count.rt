@@ -10,6 +10,7 @@ ghost use Rattle.register.specs.Performs.{Performs, alone};
 use crate::answers::Count;
 use geometry::Box;
 use geometry::NewBox;
+use table::grades;
 use table::header;
 
 // Counts in the words of a table with that header. A figure that no sound table can have is damage: more visits than `most`, or more marks than are live.
@@ -26,7 +27,8 @@ fn count_own(t: &[u32], capacity: u32, live: u32, most: u32, b: Box) -> Count
     if live < marks {
         return Count::Unsound;
     }
-    Count::Counted(marks, visits)
+    let grades = tally.grades();
+    Count::Counted(marks, visits, grades::sum(grades), grades::worst(grades))
 }
 
 fn counted(table: &[u32], x1: u32, x2: u32, y1: u32, y2: u32) -> Count

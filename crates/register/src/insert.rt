@@ -36,22 +36,23 @@ fn insert_own(t: &mut [u32], capacity: u32, m: Mark) -> Update
     Update::Present
 }
 
-fn inserted(table: &mut [u32], x: u32, y: u32, tag: u32) -> Update
-    ensures { λ r. ⌜ after (updateAnswer r) (now (table .exit)) ≡ insert♯ (mark x y tag) (now (table .entry)) ⌝ }
+fn inserted(table: &mut [u32], x: u32, y: u32, tag: u32, grade: u32) -> Update
+    ensures { λ r. ⌜ after (updateAnswer r) (now (table .exit)) ≡ insert♯ (mark x y tag grade) (now (table .entry)) ⌝ }
 {
     let own = header::own(table);
     let words = own.words;
     if words == 0 {
         return Update::NotTable;
     }
-    match Mark::new(x, y, tag) {
+    match Mark::new(x, y, tag, grade) {
         NewMark::Outside => Update::Outside,
+        NewMark::Ungraded => Update::Ungraded,
         NewMark::Valid(m) => insert_own(&mut table[0..words], own.capacity, m),
     }
 }
 
-pub fn insert(table: &mut [u32], x: u32, y: u32, tag: u32) -> Update
-    ensures { λ r. ⌜ Performs (history.insert (mark x y tag)) (alone (now (table .entry))) (alone (now (table .exit))) (updateAnswer r) ⌝ }
+pub fn insert(table: &mut [u32], x: u32, y: u32, tag: u32, grade: u32) -> Update
+    ensures { λ r. ⌜ Performs (history.insert (mark x y tag grade)) (alone (now (table .entry))) (alone (now (table .exit))) (updateAnswer r) ⌝ }
 {
-    inserted(table, x, y, tag)
+    inserted(table, x, y, tag, grade)
 }

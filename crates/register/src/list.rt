@@ -1,11 +1,12 @@
 // List: the marks of a box in two lent lists.
 ghost use mathlib.Core.Path.{_≡_};
-ghost use Prim.Native.Nat.{_*_, _≤_};
+ghost use Prim.Native.Nat.{_≤_};
 ghost use lib.ListN.{length};
 ghost use Rattle.model.specs.Sheet.{box};
 ghost use Rattle.model.specs.History as history;
 ghost use Rattle.geometry.specs.Values.{boxValue};
 ghost use Rattle.table.specs.Header.{liveOf, OfCapacity};
+ghost use Rattle.table.specs.Layout.{listPlace};
 ghost use Rattle.table.specs.Limits.{mostVisits};
 ghost use Rattle.register.specs.Answers.{listAnswer, listFigures};
 ghost use Rattle.register.specs.Mirrors.{ListedOwn, ListsOwn, Lists};
@@ -28,7 +29,7 @@ fn list_marks(
     second: &mut [u32],
     k: u32,
 ) -> Listing
-    requires { ⌜ OfCapacity capacity (now t) × (most ≤ mostVisits) × (k ≤ 65536) × (3 * k ≤ length (now first)) × (3 * k ≤ length (now second)) ⌝ }
+    requires { ⌜ OfCapacity capacity (now t) × (most ≤ mostVisits) × (k ≤ 65536) × (listPlace k ≤ length (now first)) × (listPlace k ≤ length (now second)) ⌝ }
     ensures { λ r. ⌜ ListedOwn (boxValue b) most k (now (t .entry)) (now (first .entry)) (now (second .entry))
         (now (first .exit)) (now (second .exit)) (listFigures r) ⌝ }
 {

@@ -11,7 +11,6 @@ ghost use Rattle.register.specs.Performs.{Performs, alone};
 use crate::answers::Update;
 use crate::update;
 use geometry::Mark;
-use geometry::NewMark;
 use primary_search::find;
 use table::header;
 use table::limits;
@@ -28,26 +27,27 @@ fn strike_own(t: &mut [u32], capacity: u32, m: Mark) -> Update
     if s == limits::ABSENT {
         return Update::Absent;
     }
-    let rebuilt = whole_table::strike::strike(t, capacity, m, s);
+    let rebuilt = whole_table::strike::strike(t, capacity, s);
     update::settle(t, rebuilt)
 }
 
 fn struck(table: &mut [u32], x: u32, y: u32, tag: u32) -> Update
-    ensures { λ r. ⌜ after (updateAnswer r) (now (table .exit)) ≡ strike♯ (mark x y tag) (now (table .entry)) ⌝ }
+    ensures { λ r. ⌜ after (updateAnswer r) (now (table .exit)) ≡ strike♯ (mark x y tag 0) (now (table .entry)) ⌝ }
 {
     let own = header::own(table);
     let words = own.words;
     if words == 0 {
         return Update::NotTable;
     }
-    match Mark::new(x, y, tag) {
-        NewMark::Outside => Update::Outside,
-        NewMark::Valid(m) => strike_own(&mut table[0..words], own.capacity, m),
+    let m = Mark::named(x, y, tag);
+    if m.is_outside() {
+        return Update::Outside;
     }
+    strike_own(&mut table[0..words], own.capacity, m)
 }
 
 pub fn strike(table: &mut [u32], x: u32, y: u32, tag: u32) -> Update
-    ensures { λ r. ⌜ Performs (history.strike (mark x y tag)) (alone (now (table .entry))) (alone (now (table .exit))) (updateAnswer r) ⌝ }
+    ensures { λ r. ⌜ Performs (history.strike (mark x y tag 0)) (alone (now (table .entry))) (alone (now (table .exit))) (updateAnswer r) ⌝ }
 {
     struck(table, x, y, tag)
 }

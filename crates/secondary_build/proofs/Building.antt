@@ -15,7 +15,7 @@ use Rattle.model.specs.Sheet.{Mark, Box}
 use Rattle.model.specs.Slots.{slotAxis}
 use Rattle.model.proofs.Lists.{countIf-append}
 use Rattle.model.proofs.Tree.{weight-marks, marks-pos, marks-least, build-marks, build-induction}
-use Rattle.table.specs.Layout.{runPlace}
+use Rattle.table.specs.Layout.{recordWidth, runPlace}
 use Rattle.table.specs.Marks.{slotMark}
 use Rattle.table.specs.Runs.{runSlot}
 use Rattle.table.proofs.RunSlots.{runSlot-is}
@@ -43,7 +43,8 @@ pub record Run (f : ℕ → Mark) (C i : ℕ) (l xs : List ℕ) : Type 0 where
   pub marked : (s : ℕ) → 0 < timesIn s l → slotMark xs s ≡ f s
 
 -- what building leaves: the arm of a tree that the words hold, and all words as they were but for the records of the tree's names
-pub record Built {I : Type 0} (A : Axis Mark Box) (f : ℕ → Mark) (place : ℕ → ℕ) (C : ℕ) (xs : List ℕ) (p : After Arm) (t : Tree ℕ I) : Type 0 where
+pub record Built
+    {I : Type 0} (A : Axis Mark Box) (f : ℕ → Mark) (place : ℕ → ℕ) (C : ℕ) (xs : List ℕ) (p : After Arm) (t : Tree ℕ I) : Type 0 where
   pub is : p .out ≡ armOf A f t
   pub held : Held A f place C (p .words) t
   pub frame : Frame place (Names t) 0 0 xs (p .words)
@@ -76,7 +77,8 @@ pub run-kept : {f : ℕ → Mark} {place : ℕ → ℕ} {C i n : ℕ} {l xs ys :
 run-kept {place = place} {C = C} {i = i} g a inC u = record {
   reads = λ j h.
       let k = runPlace C (i + j) in
-      a .same k (λ s p l. omega (arith, apart-sym (runPlace C 0) C (place s) 8 (g .offRun s (inC s p)) (omega (arith, u .fits))), omega arith) ∙ u .reads j h;
+      a .same k (λ s p l. omega (arith, apart-sym (runPlace C 0) C (place s) recordWidth (g .offRun s (inC s p)) (omega (arith, u .fits))), omega arith)
+      ∙ u .reads j h;
   fits = u .fits;
   once = u .once;
   within = u .within;
@@ -90,7 +92,8 @@ run-least {C = C} {i = i} {xs = xs} t u =
     runSlot-is C i (least t) xs ((rw e at (u .reads 0 (marks-pos t))) ∙ ap (λ l. getD l 0 0) (marks-least t .1)) (u .within (least t) (times-least t))
 
 -- the slots of a tree but one, gathered in run A
-module _ {I : Type 0} (A : Axis Mark Box) (f : ℕ → Mark) (place : ℕ → ℕ) (C but : ℕ) (t : Tree ℕ I) (xs : List ℕ) (g : Region place C (length xs))
+module _
+    {I : Type 0} (A : Axis Mark Box) (f : ℕ → Mark) (place : ℕ → ℕ) (C but : ℕ) (t : Tree ℕ I) (xs : List ℕ) (g : Region place C (length xs))
     (h : Held A f place C xs t) where
   rest-fits : length (without but (marks t)) ≤ C
   rest-fits = omega (arith, without-short but (marks t), weight-marks t, held-weight h)
@@ -120,7 +123,7 @@ module _ {I : Type 0} (A : Axis Mark Box) (f : ℕ → Mark) (place : ℕ → �
       let here : 0 < timesIn s (s ∷ []) = times-least {I = I} (leaf s) in
       rw (build♯-leaf 1 (omega arith) A place C i xs, run-least {I = I} (leaf s) u, u .marked s here)
       record {
-        is = leafArm-of s (A .at (f s)) (omega (arith, u .within s here, g .small));
+        is = leafArm-of f s (A .at (f s)) (omega (arith, u .within s here, g .small));
         held = record { once = u .once; within = u .within; marked = u .marked; records = tt };
         frame = unchanged-refl xs;
       }

@@ -10,7 +10,7 @@ use lib.ListN.{length}
 use Rattle.model.specs.Axis.{Axis}
 use Rattle.model.specs.Tree.{Tree, leaf, node, depth, least}
 use Rattle.model.specs.Sheet.{Mark, Box}
-use Rattle.table.specs.Layout.{runPlace}
+use Rattle.table.specs.Layout.{recordWidth, runPlace}
 use Rattle.table.specs.Marks.{slotMark}
 use Rattle.nodes.specs.Arms.{arms, recordAt, putRecord}
 use Rattle.nodes.specs.Holds.{number, armOf, times, Held}
@@ -26,7 +26,8 @@ pub record Copied {I : Type 0} (A : Axis Mark Box) (f : ℕ → Mark) (from to :
   pub frame : Frame to (Names t) 0 0 xs ys
 
 -- where no record at the old places meets one at the new
-module _ (from to : ℕ → ℕ) (C n : ℕ) (g : Region to C n) (clear : (s q : ℕ) → s < C → q < C → Apart (to q) 8 (from s) 8) where
+module _ (from to : ℕ → ℕ) (C n : ℕ) (g : Region to C n)
+    (clear : (s q : ℕ) → s < C → q < C → Apart (to q) recordWidth (from s) recordWidth) where
   -- a change of new records leaves all marks and the tree at its old places
   module _ {P : ℕ → Type 0} {xs ys : List ℕ} (a : Frame to P 0 0 xs ys) (inC : (s : ℕ) → P s → s < C) where
     same-mark : (s : ℕ) → s < C → slotMark ys s ≡ slotMark xs s
@@ -53,7 +54,7 @@ module _ (from to : ℕ → ℕ) (C n : ℕ) (g : Region to C n) (clear : (s q :
     node-copies i l r xs ys zs ln h cl cr =
         let name = least r in
         let d : ((s : ℕ) → times s l + times s r ≤ 1) = λ s. omega (arith, h .once s, times-node s i l r) in
-        let room : to name + 8 ≤ length xs = omega (arith, g .room name (held-least (held-right h))) in
+        let room : to name + recordWidth ≤ length xs = omega (arith, g .room name (held-least (held-right h))) in
         let inL : ((s : ℕ) → Names l s → s < C) = λ s k. cl .held .within s (k .0) in
         let inR : ((s : ℕ) → Names r s → s < C) = λ s k. cr .held .within s (k .0) in
         let fl = frame-run (runPlace C 0) (runPlace C C) (cl .frame) in
@@ -100,7 +101,7 @@ module _ (from to : ℕ → ℕ) (C n : ℕ) (g : Region to C n) (clear : (s q :
 
 module _ {I : Type 0} (A : Axis Mark Box) (f : ℕ → Mark) (from to : ℕ → ℕ) (C : ℕ) where
   pub copy-holds : (fuel : ℕ) (t : Tree ℕ I) (xs : List ℕ) → Region to C (length xs)
-      → ((s q : ℕ) → s < C → q < C → Apart (to q) 8 (from s) 8)
+      → ((s q : ℕ) → s < C → q < C → Apart (to q) recordWidth (from s) recordWidth)
       → Held A f from C xs t → depth t ≤ fuel → Copied A f from to C xs (copy♯ fuel C from to (number t) xs) t
   copy-holds fuel t xs g clear h d =
       let c = copy-copies from to C (length xs) g clear A f fuel t xs refl h d in

@@ -21,7 +21,7 @@ abbrev pub Building : Type 0
 Building = ℕ → ℕ → List ℕ → After Arm
 
 unfoldable pub runLeaf : Axis Mark Box → ℕ → ℕ → List ℕ → Arm
-runLeaf A capacity i xs = leafArm (runSlot capacity i xs) (A .at (slotMark xs (runSlot capacity i xs)))
+runLeaf A capacity i xs = let s = runSlot capacity i xs in leafArm s (A .at (slotMark xs s)) (slotMark xs s .grade)
 
 unfoldable pub buildOver : (ℕ → ℕ) → ℕ → Arm → Arm → List ℕ → After Arm
 buildOver place name l r xs = after (overArm name l r) (putRecord xs (place name) l r)

@@ -20,7 +20,7 @@ fn leaf(t: &[u32], capacity: u32, i: u32) -> SecondaryArm
 {
     let s = runs::run_slot(t, capacity, i);
     let m = slots::load(t, s);
-    SecondaryArm::leaf(s, m.y)
+    SecondaryArm::leaf(s, m.y, m.grade)
 }
 
 // Makes the node of that name over two trees.

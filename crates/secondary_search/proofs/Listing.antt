@@ -12,7 +12,7 @@ use lib.Seq.{sets, length-sets}
 use Rattle.model.specs.Lists.{if_then_else_, filterBy}
 use Rattle.model.specs.Axis.{onSide}
 use Rattle.model.specs.Register.{Listed, innermost}
-use Rattle.model.specs.Tree.{Tree, leaf, node, depth, marks, least}
+use Rattle.model.specs.Tree.{Tree, leaf, node, weight, depth, marks, least}
 use Rattle.model.specs.Search.{inside, clear, searchList}
 use Rattle.model.specs.Sheet.{Mark, Box, sheet, holds, alongY}
 use Rattle.model.specs.Slots.{slotSpace, slotAxis}
@@ -21,7 +21,7 @@ use Rattle.model.proofs.Logic.{by-cases}
 use Rattle.model.proofs.Lists.{all-left, all-right, countIf-append, sameBag-length}
 use Rattle.model.proofs.Slots.{map-append}
 use Rattle.model.proofs.Tree.{weight-pos, weight-marks, nodes, nodes-weight}
-use Rattle.table.specs.Layout.{recordPlace, listPlace}
+use Rattle.table.specs.Layout.{markWidth, recordPlace, listPlace}
 use Rattle.table.specs.Marks.{slotMark, putMark, markWords}
 use Rattle.nodes.specs.Arms.{arms}
 use Rattle.nodes.specs.Holds.{number, armOf, Held, CarriesBag}
@@ -33,7 +33,7 @@ use Rattle.nodes.proofs.Held.{times-least, held-least, held-left, held-right}
 use Rattle.table.proofs.Lists.{markWords-append, markWords-length}
 use Rattle.table.proofs.Tallies.{visited-pack, pack-visits, pack-found}
 use Rattle.secondary_search.specs.List.{walkLeaf, walkRecord, walkNode, walk♯, listRecord, listNode, list♯}
-use Rattle.secondary_search.proofs.Counting.{Carries, leaf-clear, Settled, settled-holds}
+use Rattle.secondary_search.proofs.Counting.{leaf-clear, Settled, settled-holds}
 
 module _ (f : ℕ → Mark) where
   -- the list with the marks of slots written from its mark k on
@@ -56,6 +56,11 @@ pub written-append : (f : ℕ → Mark) (k : ℕ) (l r ys : List ℕ) → writte
 written-append f k l r ys =
     let e : listPlace k + length (markWords (map f l)) ≡ listPlace (k + length l) = omega (arith, markWords-length (map f l), length-map l f) in
     rw (map-append f l r, markWords-append (map f l) (map f r), sets-append (markWords (map f l)) (markWords (map f r)) ys (listPlace k), e)
+
+-- each node carries as many slots as stand beneath it
+abbrev pub Carries : Tree ℕ (List ℕ) → Type 0
+Carries (leaf s) = Unit {0}
+Carries (node i l r) = (length i ≡ weight l + weight r) × Carries l × Carries r
 
 pub carriesBag-carries : (t : Tree ℕ (List ℕ)) → CarriesBag t → Carries t
 carriesBag-carries (leaf s) c = c
@@ -116,7 +121,7 @@ module _ (f : ℕ → Mark) (most : ℕ) (small : most < 4294967296) where
     leaf-writes : (s : ℕ) → slotMark xs s ≡ f s → Writes (walkLeaf xs s) (s ∷ []) 1
     unfolding walkLeaf putMark
     leaf-writes s e k v ys hv hk hy =
-        rw (visited-pack k v 1 (omega arith) (omega arith), pack-found k v (omega arith), e, le-leb (listPlace k + 3) (length ys) (omega arith))
+        rw (visited-pack k v 1 (omega arith) (omega arith), pack-found k v (omega arith), e, le-leb (listPlace k + markWidth) (length ys) (omega arith))
 
     -- a walk visits every node
     walk-holds : (n : ℕ) (t : Tree ℕ (List ℕ)) → Held alongY f (recordPlace base) C xs t → depth t < n
@@ -166,7 +171,8 @@ module _ (f : ℕ → Mark) (most : ℕ) (small : most < 4294967296) where
           (both-writes (rec (armOf alongY f l)) (rec (armOf alongY f r)) ml mr wl wr hl hr))
 
       pub list-holds : (n : ℕ) (t : Tree ℕ (List ℕ)) → Held alongY f (recordPlace base) C xs t → Carries t → Settled f b t → depth t < n
-          → (k v : ℕ) (ys : List ℕ) → v + listed f b t .visits ≤ most → k + length (met f b t) ≤ 65536 → listPlace (k + length (met f b t)) ≤ length ys
+          → (k v : ℕ) (ys : List ℕ) → v + listed f b t .visits ≤ most → k + length (met f b t) ≤ 65536
+          → listPlace (k + length (met f b t)) ≤ length ys
           → list♯ n xs C base b most (armOf alongY f t) (pack k v) ys
           ≡ after (pack (k + length (met f b t)) (v + listed f b t .visits)) (sets ys (listPlace k) (markWords (map f (met f b t))))
       list-holds zero t h c g d = absurd (omega arith)

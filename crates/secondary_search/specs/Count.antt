@@ -1,24 +1,33 @@
 -- The mirrors of the count in an auxiliary tree: those of either kind of tree (Rattle.nodes.specs.Count), along y, where the arrival at a tree inside the
--- side adds its weight. Assumes nothing.
-use Prim.Native.Nat.{ℕ}
+-- side adds its weight and its grades. Assumes nothing.
+use Prim.Native.Nat.{ℕ, _*_, _/_}
+use mathlib.Core.Path.{_≡_}
 use mathlib.Core.List.{List}
 use Rattle.model.specs.Sheet.{Box, alongY}
-use Rattle.table.specs.Layout.{recordPlace}
-use Rattle.table.specs.Limits.{deepest, lost}
-use Rattle.table.specs.Tally.{visited}
+use lib.ListN.{length}
+use Rattle.table.specs.Layout.{recordWidth, recordPlace}
+use Rattle.table.specs.Limits.{deepest, lostCount}
+use Rattle.table.specs.Figures.{arrived}
 use Rattle.nodes.specs.Arms.{Arm}
 use Rattle.nodes.specs.Count.{Kind, sideAlong, lowFrom, highFrom, lowEnd, highEnd, openFrom, countTree}
+
+-- words that are the records of a level and nothing else, and how many they are
+abbrev pub records : List ℕ → ℕ
+records xs = length xs / recordWidth
+
+abbrev pub Records : List ℕ → Type 0
+Records xs = length xs ≡ recordWidth * records xs
 
 -- an auxiliary tree has all its records in one level
 abbrev pub auxiliaryKind : Kind ℕ
 auxiliaryKind = record {
   place = recordPlace;
   deeper = λ base. base;
-  take = λ base a tally. visited tally (a .weight);
-  before = λ a tally. visited tally 0;
-  past = λ tally. visited tally 0;
-  visit = λ tally. visited tally 0;
-  lost = lost;
+  take = λ base a tally. arrived tally (a .weight) (a .grades);
+  before = λ a tally. arrived tally 0 0;
+  past = λ tally. arrived tally 0 0;
+  visit = λ tally. arrived tally 0 0;
+  lost = lostCount;
 }
 
 module _ (xs : List ℕ) (capacity : ℕ) (b : Box) where

@@ -36,7 +36,8 @@ unfoldable pub walk♯ : ℕ → List ℕ → ℕ → ℕ → ℕ → Walk
 walk♯ zero xs capacity base most n tally ys = after lost ys
 walk♯ (suc f) xs capacity base most n tally ys = walkNode (walk♯ f xs capacity base most) xs capacity base most n tally ys
 
-pub walk♯-zero : (f : ℕ) → f ≡ 0 → (xs : List ℕ) (capacity base most n tally : ℕ) (ys : List ℕ) → walk♯ f xs capacity base most n tally ys ≡ after lost ys
+pub walk♯-zero : (f : ℕ) → f ≡ 0 → (xs : List ℕ) (capacity base most n tally : ℕ) (ys : List ℕ)
+    → walk♯ f xs capacity base most n tally ys ≡ after lost ys
 unfolding walk♯
 walk♯-zero f e xs capacity base most n tally ys = rw e
 

@@ -1,34 +1,32 @@
 // Counting: the planner's inner loop. In an ordered tree the box's side begins in one child of a node and ends in one: the search goes down to the node
-// where the two ends part, and from there beneath each child with one end to look for. A node that is of no slot of the table is damage.
+// where the two ends part, and from there beneath each child with one end to look for. The words lent are the records of the tree's level and nothing
+// else, so that a walk adds no base to a place. A node that has no record among them is of no slot of the table: damage.
 ghost use mathlib.Core.Path.{_≡_};
-ghost use Prim.Native.Nat.{_≤_};
-ghost use lib.ListN.{length};
 ghost use Rattle.geometry.specs.Values.{boxValue};
-ghost use Rattle.table.specs.Layout.{levelEnd};
 ghost use Rattle.nodes.specs.Values.{secondaryArm};
-ghost use Rattle.secondary_search.specs.Count.{low♯, high♯, lowEnd♯, highEnd♯, opened♯, count♯};
+ghost use Rattle.secondary_search.specs.Count.{Records, records, low♯, high♯, lowEnd♯, highEnd♯, opened♯, count♯};
 use geometry::Box;
 use nodes::secondary::Secondary;
 use nodes::secondary::SecondaryArm;
 use nodes::secondary::SecondaryRecord;
+use table::figures::Figures;
 use table::limits;
-use table::tally::Tally;
 
 // Beneath a node in which the side begins, and which ends on it.
-fn from_low(t: &[u32], base: u32, capacity: u32, b: Box, start: Secondary, from: Tally) -> Tally
-    requires { ⌜ levelEnd base capacity ≤ length (now t) ⌝ }
-    ensures { λ r. ⌜ r .0 ≡ low♯ (now (t .entry)) capacity (boxValue b) base (start .0) (from .0) ⌝ }
+fn from_low(t: &[u32], b: Box, start: Secondary, from: Figures) -> Figures
+    requires { ⌜ Records (now t) ⌝ }
+    ensures { λ r. ⌜ r .0 ≡ low♯ (now (t .entry)) (records (now (t .entry))) (boxValue b) 0 (start .0) (from .0) ⌝ }
 {
     let mut node = start;
     let mut tally = from;
     let mut left = limits::DEEPEST;
     while 0 < left {
         left -= 1;
-        let s = node.slot();
-        if capacity <= s {
-            return Tally::lost();
+        let at = node.place();
+        if t.len() <= at {
+            return Figures::lost();
         }
-        let p = SecondaryRecord::load(t, base, s);
+        let p = SecondaryRecord::read(t, at);
         let l = p.left;
         let r = p.right;
         let left_node = l.node;
@@ -39,31 +37,31 @@ fn from_low(t: &[u32], base: u32, capacity: u32, b: Box, start: Secondary, from:
                 tally = tally.visit();
                 node = right_node;
             } else {
-                return tally.take(r.weight);
+                return tally.take(r.weight, r.grades);
             }
         } else {
-            tally = tally.take(r.weight).visit();
+            tally = tally.take(r.weight, r.grades).visit();
             node = left_node;
         }
     }
-    Tally::lost()
+    Figures::lost()
 }
 
 // Beneath a node that begins on the side, and in which it ends.
-fn to_high(t: &[u32], base: u32, capacity: u32, b: Box, start: Secondary, from: Tally) -> Tally
-    requires { ⌜ levelEnd base capacity ≤ length (now t) ⌝ }
-    ensures { λ r. ⌜ r .0 ≡ high♯ (now (t .entry)) capacity (boxValue b) base (start .0) (from .0) ⌝ }
+fn to_high(t: &[u32], b: Box, start: Secondary, from: Figures) -> Figures
+    requires { ⌜ Records (now t) ⌝ }
+    ensures { λ r. ⌜ r .0 ≡ high♯ (now (t .entry)) (records (now (t .entry))) (boxValue b) 0 (start .0) (from .0) ⌝ }
 {
     let mut node = start;
     let mut tally = from;
     let mut left = limits::DEEPEST;
     while 0 < left {
         left -= 1;
-        let s = node.slot();
-        if capacity <= s {
-            return Tally::lost();
+        let at = node.place();
+        if t.len() <= at {
+            return Figures::lost();
         }
-        let p = SecondaryRecord::load(t, base, s);
+        let p = SecondaryRecord::read(t, at);
         let l = p.left;
         let r = p.right;
         let left_node = l.node;
@@ -74,59 +72,59 @@ fn to_high(t: &[u32], base: u32, capacity: u32, b: Box, start: Secondary, from: 
                 tally = tally.visit();
                 node = left_node;
             } else {
-                return tally.take(l.weight);
+                return tally.take(l.weight, l.grades);
             }
         } else {
-            tally = tally.take(l.weight).visit();
+            tally = tally.take(l.weight, l.grades).visit();
             node = right_node;
         }
     }
-    Tally::lost()
+    Figures::lost()
 }
 
 // The arrival at a tree that ends no later than the side, and at one that begins no earlier.
-fn low_end(t: &[u32], base: u32, capacity: u32, b: Box, a: SecondaryArm, tally: Tally) -> Tally
-    requires { ⌜ levelEnd base capacity ≤ length (now t) ⌝ }
-    ensures { λ r. ⌜ r .0 ≡ lowEnd♯ (now (t .entry)) capacity (boxValue b) base (secondaryArm a) (tally .0) ⌝ }
+fn low_end(t: &[u32], b: Box, a: SecondaryArm, tally: Figures) -> Figures
+    requires { ⌜ Records (now t) ⌝ }
+    ensures { λ r. ⌜ r .0 ≡ lowEnd♯ (now (t .entry)) (records (now (t .entry))) (boxValue b) 0 (secondaryArm a) (tally .0) ⌝ }
 {
     if b.before_y(a.greatest) {
         return tally.before(a.weight);
     }
     if b.before_y(a.least) {
-        return from_low(t, base, capacity, b, a.node, tally.visit());
+        return from_low(t, b, a.node, tally.visit());
     }
-    tally.take(a.weight)
+    tally.take(a.weight, a.grades)
 }
 
-fn high_end(t: &[u32], base: u32, capacity: u32, b: Box, a: SecondaryArm, tally: Tally) -> Tally
-    requires { ⌜ levelEnd base capacity ≤ length (now t) ⌝ }
-    ensures { λ r. ⌜ r .0 ≡ highEnd♯ (now (t .entry)) capacity (boxValue b) base (secondaryArm a) (tally .0) ⌝ }
+fn high_end(t: &[u32], b: Box, a: SecondaryArm, tally: Figures) -> Figures
+    requires { ⌜ Records (now t) ⌝ }
+    ensures { λ r. ⌜ r .0 ≡ highEnd♯ (now (t .entry)) (records (now (t .entry))) (boxValue b) 0 (secondaryArm a) (tally .0) ⌝ }
 {
     if b.past_y(a.least) {
         return tally.past();
     }
     if b.past_y(a.greatest) {
-        return to_high(t, base, capacity, b, a.node, tally.visit());
+        return to_high(t, b, a.node, tally.visit());
     }
-    tally.take(a.weight)
+    tally.take(a.weight, a.grades)
 }
 
 // Beneath a node whose cell is neither inside the side nor clear of it. Where the right child begins before the side, the left one ends before it; where the
 // left child ends past the side, the right one begins past it.
-fn opened(t: &[u32], base: u32, capacity: u32, b: Box, start: Secondary, from: Tally) -> Tally
-    requires { ⌜ levelEnd base capacity ≤ length (now t) ⌝ }
-    ensures { λ r. ⌜ r .0 ≡ opened♯ (now (t .entry)) capacity (boxValue b) base (start .0) (from .0) ⌝ }
+fn opened(t: &[u32], b: Box, start: Secondary, from: Figures) -> Figures
+    requires { ⌜ Records (now t) ⌝ }
+    ensures { λ r. ⌜ r .0 ≡ opened♯ (now (t .entry)) (records (now (t .entry))) (boxValue b) 0 (start .0) (from .0) ⌝ }
 {
     let mut node = start;
     let mut tally = from;
     let mut left = limits::DEEPEST;
     while 0 < left {
         left -= 1;
-        let s = node.slot();
-        if capacity <= s {
-            return Tally::lost();
+        let at = node.place();
+        if t.len() <= at {
+            return Figures::lost();
         }
-        let p = SecondaryRecord::load(t, base, s);
+        let p = SecondaryRecord::read(t, at);
         let l = p.left;
         let r = p.right;
         let left_node = l.node;
@@ -139,21 +137,21 @@ fn opened(t: &[u32], base: u32, capacity: u32, b: Box, start: Secondary, from: T
                 tally = tally.past().visit();
                 node = left_node;
             } else {
-                let low = low_end(t, base, capacity, b, l, tally);
-                return high_end(t, base, capacity, b, r, low);
+                let low = low_end(t, b, l, tally);
+                return high_end(t, b, r, low);
             }
         }
     }
-    Tally::lost()
+    Figures::lost()
 }
 
-// The marks of a tree on the box's side, and the visits, onto a tally.
-pub fn count(t: &[u32], base: u32, capacity: u32, b: Box, root: SecondaryArm, from: Tally) -> Tally
-    requires { ⌜ levelEnd base capacity ≤ length (now t) ⌝ }
-    ensures { λ r. ⌜ r .0 ≡ count♯ (now (t .entry)) capacity (boxValue b) base (secondaryArm root) (from .0) ⌝ }
+// The figures of a tree's marks on the box's side, and the visits, onto a tally.
+pub fn count(t: &[u32], b: Box, root: SecondaryArm, from: Figures) -> Figures
+    requires { ⌜ Records (now t) ⌝ }
+    ensures { λ r. ⌜ r .0 ≡ count♯ (now (t .entry)) (records (now (t .entry))) (boxValue b) 0 (secondaryArm root) (from .0) ⌝ }
 {
     if b.inside_y(root.least, root.greatest) {
-        return from.take(root.weight);
+        return from.take(root.weight, root.grades);
     }
     if b.before_y(root.greatest) {
         return from.before(root.weight);
@@ -161,5 +159,5 @@ pub fn count(t: &[u32], base: u32, capacity: u32, b: Box, root: SecondaryArm, fr
     if b.past_y(root.least) {
         return from.past();
     }
-    opened(t, base, capacity, b, root.node, from.visit())
+    opened(t, b, root.node, from.visit())
 }

@@ -14,7 +14,7 @@ use Rattle.model.specs.Fold.{insertRebuilt, strikeRebuilt, fold}
 use Rattle.model.specs.Sheet.{Mark, Box, sheet, alongY}
 use Rattle.model.specs.Slots.{slotSpace, slotAxis}
 use Rattle.model.specs.Laws.{Sorted}
-use Rattle.model.proofs.Orders.{sheet-sameness, same-sound, alongY-laws}
+use Rattle.model.proofs.Orders.{sheet-sameness, alongY-laws}
 use Rattle.table.specs.Layout.{auxiliaryPlace, runPlace, recordPlace, levelEnd}
 use Rattle.table.specs.Limits.{deepest, damaged}
 use Rattle.table.specs.Marks.{slotMark}
@@ -54,8 +54,10 @@ module _ (f : ℕ → Mark) (base C : ℕ) (xs : List ℕ) where
     pub sound : rebuilt ≡ damaged → ⊥
 
   module _ (g : Region (recordPlace base) C (length xs)) (s : ℕ) where
-    pub auxiliary-insert : (owner : ℕ) (t : Tree ℕ (List ℕ)) → runPlace C C ≤ base → owner < C → armAt xs (auxiliaryPlace owner) ≡ armOf alongY f t
-        → Held alongY f (recordPlace base) C xs t → Balanced t → Sorted (slotAxis f alongY) (marks t) → s < C → slotMark xs s ≡ f s → times s t ≡ 0
+    pub auxiliary-insert : (owner : ℕ) (t : Tree ℕ (List ℕ)) → runPlace C C ≤ base → owner < C
+        → armAt xs (auxiliaryPlace owner) ≡ armOf alongY f t
+        → Held alongY f (recordPlace base) C xs t → Balanced t → Sorted (slotAxis f alongY) (marks t) → s < C → slotMark xs s ≡ f s
+        → times s t ≡ 0
         → let p = auxiliaryInsert♯ base C (f s) s owner xs in
         BecomesAt (auxiliaryPlace owner) (auxiliaryOf f .insert s (some t)) (insertRebuilt (slotAxis f alongY) (carried f) s (some t)) (p .out) (p .words)
     unfolding auxiliaryInsert♯
@@ -70,7 +72,7 @@ module _ (f : ℕ → Mark) (base C : ℕ) (xs : List ℕ) where
           sorted = o;
           spot = auxiliary-spot base C (length xs) owner k low (g .runRoom);
         } in
-        let e = insert-holds alongY f (carried f) (recordPlace base) C s inC (axis-coordinate alongY-laws same-sound)
+        let e = insert-holds alongY f (carried f) (recordPlace base) C s inC (axis-coordinate alongY-laws)
         deepest t true (auxiliaryPlace owner) xs ready (omega arith) (omega arith) b in
         let sound = grows-sound alongY f (carried f) (recordPlace base) C s (auxiliaryPlace owner) xs
         (insert♯ alongY deepest C (recordPlace base) (f s) s true (auxiliaryPlace owner) xs) true
@@ -78,7 +80,8 @@ module _ (f : ℕ → Mark) (base C : ℕ) (xs : List ℕ) where
         rw (le-ltb (length xs) (levelEnd base C) (level-there base C (length xs) g (omega arith)))
         (record { tree = _; is = refl; leaves = e .0; figure = e .1; sound = sound })
 
-    pub auxiliary-strike : (owner : ℕ) (i : List ℕ) (l r : Tree ℕ (List ℕ)) → owner < C → armAt xs (auxiliaryPlace owner) ≡ armOf alongY f (node i l r)
+    pub auxiliary-strike : (owner : ℕ) (i : List ℕ) (l r : Tree ℕ (List ℕ)) → owner < C
+        → armAt xs (auxiliaryPlace owner) ≡ armOf alongY f (node i l r)
         → Held alongY f (recordPlace base) C xs (node i l r) → Balanced (node i l r) → Sorted (slotAxis f alongY) (marks (node i l r))
         → 0 < times s (node i l r)
         → let p = auxiliaryStrike♯ base C (f s) s owner xs in

@@ -9,14 +9,17 @@ use native.Mathlib.Omega.{arith}
 use lib.Dec.{ltb, eqb}
 use lib.ListN.{length}
 use borrow.Author.Tests.{eq-eqb, ne-eqb, eqb-true, ltb-true, ltb-false, lt-leb}
-use Rattle.model.specs.Lists.{indicator}
+use Rattle.model.specs.Lists.{indicator, countIf}
 use Rattle.model.specs.Axis.{Space, Axis}
 use Rattle.model.specs.Register.{Register}
-use Rattle.model.specs.Sheet.{Mark, Box}
-use Rattle.model.specs.Slots.{slotAxis}
+use Rattle.model.specs.Sheet.{Mark, Box, sheet}
+use Rattle.model.specs.Slots.{slotAxis, slotOperation}
 use Rattle.model.specs.Tree.{Tree, leaf, node, weight, depth, marks, least, greatest, evenly, Balanced, build, insertLeaf, rebuilt}
 use Rattle.model.specs.Laws.{AxisLaws, Sorted}
 use Rattle.model.proofs.Logic.{by-cases, clash}
+use Rattle.model.proofs.Lists.{countIf-append}
+use Rattle.model.proofs.Totals.{sameBag-total}
+use Rattle.model.proofs.Slots.{slotOperation-laws}
 use Rattle.model.proofs.Sorted.{sorted-left, sorted-right, sorted-across}
 use Rattle.model.proofs.Tree.{weight-pos, weight-marks, marks-pos, all-least, all-greatest, build-marks}
 use Rattle.model.proofs.Rebalance.{rebalance-left, rebalance-right, rebuilt-left, rebuilt-right}
@@ -27,7 +30,9 @@ use Rattle.nodes.specs.Ways.{wayAt}
 use Rattle.nodes.specs.Weights.{sum}
 use Rattle.nodes.proofs.Balance.{balanced-swap, unbalances-even, unbalances-uneven, way-weight}
 use Rattle.table.specs.Words.{lesser, greater}
-use Rattle.nodes.specs.Holds.{number, armOf, times, Held}
+use Rattle.table.specs.Grades.{graded, grading, word, joinedWord}
+use Rattle.table.proofs.Packing.{joined-comm, grading-laws, word-joined}
+use Rattle.nodes.specs.Holds.{number, gradesOf, armOf, times, Held}
 use Rattle.table.specs.After.{After, after}
 use Rattle.nodes.proofs.Unchanged.{unchanged-refl, putArm-unchanged}
 use Rattle.nodes.proofs.Frames.{putArm-same, Region, frameAt-weaken, putArm-frame}
@@ -42,15 +47,20 @@ use Rattle.secondary_update.proofs.Mending.{mended, figure, MayMend}
 use Rattle.secondary_update.proofs.Steps.{not-mending}
 use Rattle.secondary_update.proofs.Mended.{mended-marks, mended-times, mended-weight, mended-least, mayMend-left, mayMend-right}
 use Rattle.secondary_update.proofs.Node.{node-leaves}
+use Rattle.table.specs.Layout.{armWidth}
 
 -- what insertion does to a tree, whatever the order
 module _ {B I : Type 0} (X : Axis ℕ B) (R : Register ℕ B I) (s : ℕ) where
-  pub insert-times : (q : ℕ) (t : Tree ℕ I) → times q (insertLeaf X R s t) ≡ times q t + indicator (eqb q s)
-  insert-times q (leaf p) = by-cases (X .below s p) (λ e. rw e (omega arith)) (λ e. rw e (omega arith))
-  insert-times q (node i l r) =
+  insert-bag : (p : ℕ → Bool) (t : Tree ℕ I) → countIf p (marks (insertLeaf X R s t)) ≡ countIf p (marks t) + indicator (p s)
+  insert-bag p (leaf q) = by-cases (X .below s q) (λ e. rw e (omega arith)) (λ e. rw e (omega arith))
+  insert-bag p (node i l r) =
+      let were = countIf-append p (marks l) (marks r) in
       by-cases (X .below s (least r))
-      (λ e. rw e (omega (arith, insert-times q l, times-node q i l r, times-node q (R .insert s i) (insertLeaf X R s l) r)))
-      (λ e. rw e (omega (arith, insert-times q r, times-node q i l r, times-node q (R .insert s i) l (insertLeaf X R s r))))
+      (λ e. rw e (omega (arith, insert-bag p l, were, countIf-append p (marks (insertLeaf X R s l)) (marks r))))
+      (λ e. rw e (omega (arith, insert-bag p r, were, countIf-append p (marks l) (marks (insertLeaf X R s r)))))
+
+  pub insert-times : (q : ℕ) (t : Tree ℕ I) → times q (insertLeaf X R s t) ≡ times q t + indicator (eqb q s)
+  insert-times q t = insert-bag (eqb q) t
 
   pub insert-weight : (t : Tree ℕ I) → weight (insertLeaf X R s t) ≡ weight t + 1
   insert-weight (leaf p) = by-cases (X .below s p) (λ e. rw e) (λ e. rw e)
@@ -116,12 +126,9 @@ pub record ByCoordinate (A : Axis Mark Box) : Type 0 where
   pub rises : (a b : Mark) → A .below a b ≡ true → A .at a ≤ A .at b
   pub level : (a b : Mark) → A .below a b ≡ false → A .at b ≤ A .at a
 
--- so it does by the laws of an axis, where marks that are the same are one
-pub axis-coordinate : {S : Space Mark Box} {A : Axis Mark Box} → AxisLaws S A → ((a b : Mark) → S .same a b ≡ true → a ≡ b) → ByCoordinate A
-axis-coordinate {A = A} O sound = record {
-  rises = O .rises;
-  level = λ a b e. by-cases (A .below b a) (λ t. O .rises b a t) (λ u. let q = ap (A .at) (sound a b (O .close a b e u)) in omega arith);
-}
+-- so it does by the laws of an axis
+pub axis-coordinate : {S : Space Mark Box} {A : Axis Mark Box} → AxisLaws S A → ByCoordinate A
+axis-coordinate O = record { rises = O .rises; level = O .level }
 
 pub sum-one : (w : ℕ) → w ≤ 65536 → sum w 1 ≡ w + 1
 unfolding sum
@@ -187,21 +194,31 @@ module _ {I : Type 0} (A : Axis Mark Box) (f : ℕ → Mark) (R : Register ℕ B
     grown-number : (i : I) (l r : Tree ℕ I) → number (node i l r) ≡ number (grown (node i l r))
     grown-number i l r = by-cases (A .below (f s) (f (least r))) (λ e. rw e) (λ e. rw (e, insert-least (slotAxis f A) R s r e))
 
+    grown-grades : (t : Tree ℕ I) → joinedWord (word (gradesOf f t)) (word (graded (f s .grade))) ≡ word (gradesOf f (grown t))
+    unfolding joinedWord
+    grown-grades t =
+        let bag : ((p : ℕ → Bool) → countIf p (s ∷ marks t) ≡ countIf p (marks (grown t))) =
+        λ p. omega (arith, insert-bag (slotAxis f A) R s p t) in
+        word-joined (gradesOf f t) (graded (f s .grade))
+        ∙ ap word (joined-comm (gradesOf f t) (graded (f s .grade))
+        ∙ sameBag-total (slotOperation f grading) (slotOperation-laws f sheet grading grading-laws) (λ q. grading .of (f q)) (s ∷ marks t)
+        (marks (grown t)) bag)
+
     pub grown-arm : (i : I) (l r : Tree ℕ I) → Sorted (slotAxis f A) (marks (node i l r)) → weight l + weight r ≤ 65536
-        → grownArm (armOf A f (node i l r)) (A .at (f s)) ≡ armOf A f (insertLeaf (slotAxis f A) R s (node i l r))
+        → grownArm (armOf A f (node i l r)) (A .at (f s)) (f s .grade) ≡ armOf A f (insertLeaf (slotAxis f A) R s (node i l r))
     unfolding grownArm
     grown-arm i l r o h =
         let w = sum-one (weight l + weight r) h ∙ sym (insert-weight (slotAxis f A) R s (node i l r)) in
-        λ k. arm (grown-number i l r k) (w k) (grown-low (node i l r) o k) (grown-high (node i l r) o k)
+        λ k. arm (grown-number i l r k) (w k) (grown-low (node i l r) o k) (grown-high (node i l r) o k) (grown-grades (node i l r) k)
 
   -- mending a child keeps the node's arm
   mended-arm-left : (mends : Bool) (i : I) (l r : Tree ℕ I) → armOf A f (node i (mended (slotAxis f A) R mends l) r) ≡ armOf A f (node i l r)
-  mended-arm-left mends i l r = rw (mended-weight (slotAxis f A) R mends l, mended-least (slotAxis f A) R mends l)
+  mended-arm-left mends i l r = rw (mended-weight (slotAxis f A) R mends l, mended-least (slotAxis f A) R mends l, mended-marks (slotAxis f A) R mends l)
 
   mended-arm-right : (mends : Bool) (i : I) (l r : Tree ℕ I) → armOf A f (node i l (mended (slotAxis f A) R mends r)) ≡ armOf A f (node i l r)
   mended-arm-right mends i l r =
       let e = greatest-marks (mended (slotAxis f A) R mends r) r (mended-marks (slotAxis f A) R mends r) in
-      rw (mended-weight (slotAxis f A) R mends r, mended-least (slotAxis f A) R mends r, e)
+      rw (mended-weight (slotAxis f A) R mends r, mended-least (slotAxis f A) R mends r, e, mended-marks (slotAxis f A) R mends r)
 
 module _ {I : Type 0} (A : Axis Mark Box) (f : ℕ → Mark) (R : Register ℕ Box I) (place : ℕ → ℕ) (C s : ℕ) where
   -- before the insertion of slot s: the tree is held, in order and without the slot, its arm stands at a spot, and the slot has its mark
@@ -225,7 +242,8 @@ module _ {I : Type 0} (A : Axis Mark Box) (f : ℕ → Mark) (R : Register ℕ B
   grow t = grown A f R s t
 
   -- so it does not tell of damage
-  pub grows-sound : (at : ℕ) (xs : List ℕ) (p : After ℕ) (mends : Bool) (t : Tree ℕ I) → C ≤ 65536 → Grows at xs p mends t → p .out ≡ damaged → ⊥
+  pub grows-sound : (at : ℕ) (xs : List ℕ) (p : After ℕ) (mends : Bool) (t : Tree ℕ I) → C ≤ 65536 → Grows at xs p mends t
+      → p .out ≡ damaged → ⊥
   grows-sound at xs p mends t small h e = omega (arith, h .1, figure-weight mends t, mended-weight X R mends t, held-weight (h .0 .held))
 
   -- what was inserted without mending is built afresh
@@ -262,7 +280,8 @@ module _ {I : Type 0} (A : Axis Mark Box) (f : ℕ → Mark) (R : Register ℕ B
         rw (afresh-words deep) (subst (LeavesAt A f place C at xs _) (sym e) k, sym n)
 
   again-grows : (at : ℕ) (xs : List ℕ) (rec : Insertion) (i : I) (l r : Tree ℕ I) → Region place C (length xs)
-      → Spot place C (Names (node i l r)) at (length xs) → depth (node i l r) < 40 → evenly l r ≡ false → Grows at xs (rec false at xs) false (node i l r)
+      → Spot place C (Names (node i l r)) at (length xs) → depth (node i l r) < 40 → evenly l r ≡ false
+      → Grows at xs (rec false at xs) false (node i l r)
       → Grows at xs (insertAfresh A rec C place at xs) true (node i l r)
   unfolding insertAfresh
   again-grows at xs rec i l r g spot deep u h = rw (h .1) (afresh-grows at xs (rec false at xs .words) i l r g spot (h .0) deep u)
@@ -309,7 +328,7 @@ module _ {I : Type 0} (A : Axis Mark Box) (f : ℕ → Mark) (R : Register ℕ B
         let once = grown-once (leaf q) (k .held) (k .new) in
         let i = R .insert s (R .build (q ∷ [])) in
         let new = leaf-held xs (k .marked) in
-        rw (half, k .held .marked q (times-least {I = I} (leaf q)), leafArm-of s (A .at (f s)) (omega arith))
+        rw (half, k .held .marked q (times-least {I = I} (leaf q)), leafArm-of f s (A .at (f s)) (omega arith))
         (by-cases (A .below (f s) (f q))
         (λ e. rw e (pair-grows mends at xs i s q (k .region) new (k .held) (λ p. omega (arith, once p)) (rw e at (k .spot))))
         (λ e. rw e (pair-grows mends at xs i q s (k .region) (k .held) new (λ p. omega (arith, once p)) (rw e at (k .spot)))))
@@ -320,12 +339,12 @@ module _ {I : Type 0} (A : Axis Mark Box) (f : ℕ → Mark) (R : Register ℕ B
       here = R .insert s i
 
       abbrev wide : Arm
-      wide = grownArm (armOf A f (node i l r)) (A .at (f s))
+      wide = grownArm (armOf A f (node i l r)) (A .at (f s)) (f s .grade)
 
       abbrev widened : List ℕ
       widened = putArm xs at wide
 
-      room : at + 4 ≤ length xs
+      room : at + armWidth ≤ length xs
       room = k .spot .room
 
       long : length widened ≡ length xs
@@ -345,7 +364,7 @@ module _ {I : Type 0} (A : Axis Mark Box) (f : ℕ → Mark) (R : Register ℕ B
       named : least r < C
       named = held-least (held-right (k .held))
 
-      children : arms (armAt widened (place (least r))) (armAt widened (place (least r) + 4)) ≡ arms (armOf A f l) (armOf A f r)
+      children : arms (armAt widened (place (least r))) (armAt widened (place (least r) + armWidth)) ≡ arms (armOf A f l) (armOf A f r)
       children = sym (record-arms widened (place (least r))) ∙ widened-held .records .0
 
       once : (q : ℕ) → times q l + times q r + indicator (eqb q s) ≤ 1
@@ -368,7 +387,7 @@ module _ {I : Type 0} (A : Axis Mark Box) (f : ℕ → Mark) (R : Register ℕ B
             (λ p. omega (arith, p .0, insert-times X R s (least r) l, once (least r), times-least r)) (omega arith) (omega arith);
       }
 
-      right-ready : A .below (f s) (f (least r)) ≡ false → Ready (place (least r) + 4) widened r
+      right-ready : A .below (f s) (f (least r)) ≡ false → Ready (place (least r) + armWidth) widened r
       right-ready e = record {
         region = widened-region;
         marked = widened-marked;
@@ -376,7 +395,7 @@ module _ {I : Type 0} (A : Axis Mark Box) (f : ℕ → Mark) (R : Register ℕ B
         held = held-right widened-held;
         new = omega (arith, k .new, times-node s i l r);
         sorted = sorted-right (marks l) (marks r) (k .sorted);
-        spot = record-spot (place (least r) + 4) (least r) widened-region named (λ q p. grown-within r (held-right widened-held) q (p .0))
+        spot = record-spot (place (least r) + armWidth) (least r) widened-region named (λ q p. grown-within r (held-right widened-held) q (p .0))
             (λ p. p .1 (sym (insert-least X R s r e))) (omega arith) (omega arith);
       }
 
@@ -397,7 +416,7 @@ module _ {I : Type 0} (A : Axis Mark Box) (f : ℕ → Mark) (R : Register ℕ B
           )
 
       right-grows : (mends : Bool) (p : After ℕ) → A .below (f s) (f (least r)) ≡ false → MayMend mends l → Steady X R here l (grow r) mends
-          → Grows (place (least r) + 4) widened p mends (grow r) → Grows at xs p mends (node here l (grow r))
+          → Grows (place (least r) + armWidth) widened p mends (grow r) → Grows at xs p mends (node here l (grow r))
       right-grows mends p e b t h =
           let m : Tree ℕ I = mended X R mends (grow r) in
           let same = mended-marks X R mends (grow r) in
@@ -410,7 +429,7 @@ module _ {I : Type 0} (A : Axis Mark Box) (f : ℕ → Mark) (R : Register ℕ B
           (rw (mended-arm-right A f R s mends here l (grow r)) e′)
           (putArm-frame xs at wide) (held-left widened-held)
           (subst (λ q. armAt widened (place q) ≡ armOf A f l) (sym name) (ap (λ p. p .left) children))
-          (subst (λ q. LeavesAt A f place C (place q + 4) widened (p .words) m) (sym name) (h .0)) in (
+          (subst (λ q. LeavesAt A f place C (place q + armWidth) widened (p .words) m) (sym name) (h .0)) in (
             subst (LeavesAt A f place C at xs (p .words)) (sym (steady-right X R here l (grow r) mends b t)) u,
             rw (figure-right X R here l (grow r) mends b t) (h .1),
           )
@@ -447,7 +466,7 @@ module _ {I : Type 0} (A : Axis Mark Box) (f : ℕ → Mark) (R : Register ℕ B
         way-left true t = rw (unbalances-even (weight l) (weight r) (weight (grow l)) (insert-weight X R s l) (t refl))
         way-left false t = rw (not-mending (weight l) (weight r))
 
-        way-right : (mends : Bool) → Steady X R here l (grow r) mends → Onward false mends ≡ rec mends (place (least r) + 4) widened
+        way-right : (mends : Bool) → Steady X R here l (grow r) mends → Onward false mends ≡ rec mends (place (least r) + armWidth) widened
         unfolding insertChild wayOf childAt
         way-right true t =
             let even = balanced-swap (weight (grow r)) (weight l) ∙ t refl in
@@ -480,17 +499,17 @@ module _ {I : Type 0} (A : Axis Mark Box) (f : ℕ → Mark) (R : Register ℕ B
               rw (way-left false (λ z. clash z refl)) (left-grows false (rec false (place (least r)) widened) e b (λ z. clash z refl) h)
 
           right-way : (mends : Bool) → A .below (f s) (f (least r)) ≡ false → MayMend mends (node i l r)
-              → Grows (place (least r) + 4) widened (rec mends (place (least r) + 4) widened) mends (grow r)
+              → Grows (place (least r) + armWidth) widened (rec mends (place (least r) + armWidth) widened) mends (grow r)
               → (mends ≡ true → Grows at xs (rec false at xs) false (grow (node i l r)))
               → Grows at xs (Onward false mends) mends (node here l (grow r))
           right-way true e b h again =
               by-cases (evenly l (grow r))
-              (λ t. rw (way-right true (λ z. t)) (right-grows true (rec true (place (least r) + 4) widened) e (b .2) (λ z. t) h))
+              (λ t. rw (way-right true (λ z. t)) (right-grows true (rec true (place (least r) + armWidth) widened) e (b .2) (λ z. t) h))
               (λ u. rw (afresh-right b u)
               (again-grows at xs rec here l (grow r) (k .region) (rw e at (k .spot))
               (omega (arith, insert-depth X R s r)) u (rw e at (again refl))))
           right-way false e b h again =
-              rw (way-right false (λ z. clash z refl)) (right-grows false (rec false (place (least r) + 4) widened) e b (λ z. clash z refl) h)
+              rw (way-right false (λ z. clash z refl)) (right-grows false (rec false (place (least r) + armWidth) widened) e b (λ z. clash z refl) h)
 
     -- THE INSERTION: where mending is asked, a step of fuel more may be spent on the tree that is built afresh
     pub insert-holds : ByCoordinate A → (fuel : ℕ) (t : Tree ℕ I) (mends : Bool) (at : ℕ) (xs : List ℕ) → Ready at xs t
@@ -513,5 +532,5 @@ module _ {I : Type 0} (A : Axis Mark Box) (f : ℕ → Mark) (R : Register ℕ B
         (insert-holds K fuel l mends (place (least r)) (widened K at xs i l r k) (left-ready K at xs i l r k) (omega arith) (omega arith)
         (mayMend-left mends i l r b)) again))
         (λ e. rw e (right-way K at xs i l r k rec d mends e b
-        (insert-holds K fuel r mends (place (least r) + 4) (widened K at xs i l r k) (right-ready K at xs i l r k e) (omega arith) (omega arith)
+        (insert-holds K fuel r mends (place (least r) + armWidth) (widened K at xs i l r k) (right-ready K at xs i l r k e) (omega arith) (omega arith)
         (mayMend-right mends i l r b)) again)))

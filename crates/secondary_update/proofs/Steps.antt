@@ -4,7 +4,7 @@ use mathlib.Core.Path.{_≡_, refl}
 use mathlib.Core.Bool.{Bool, true, false}
 use native.Mathlib.Omega.{arith}
 use mathlib.Core.List.{List}
-use Rattle.table.specs.Layout.{recordPlace}
+use Rattle.table.specs.Layout.{levelEnd, armWidth, recordPlace}
 use Rattle.table.specs.Limits.{damaged}
 use Rattle.table.specs.After.{after}
 use Rattle.secondary_update.specs.Insert.{afresh♯, ended}
@@ -12,8 +12,8 @@ use Rattle.nodes.specs.Arms.{childAt}
 use Rattle.nodes.specs.Weights.{unbalances}
 
 -- where the level's records are there, so is a child's arm
-pub child-there : (base name capacity len r : ℕ) (b : Bool) → r ≡ childAt (recordPlace base name) b → name < capacity → base + 8 * capacity ≤ len
-    → r + 4 ≤ len
+pub child-there : (base name capacity len r : ℕ) (b : Bool) → r ≡ childAt (recordPlace base name) b → name < capacity → levelEnd base capacity ≤ len
+    → r + armWidth ≤ len
 unfolding childAt
 child-there base name capacity len r true e h k = omega (arith, e, h, k)
 child-there base name capacity len r false e h k = omega (arith, e, h, k)

@@ -80,8 +80,10 @@ module _ {I : Type 0} (A : Axis Mark Box) (f : ℕ → Mark) (s : ℕ) where
     pub data Strikes : Tree ℕ I → Tree ℕ I → Type 0 where
       leftGoes : {i : I} {r : Tree ℕ I} → A .below (f s) (f (least r)) ≡ true → Strikes (node i (leaf s) r) r
       rightGoes : {i : I} {l : Tree ℕ I} → A .below (f s) (f s) ≡ false → Strikes (node i l (leaf s)) l
-      inLeft : {i : I} {l l′ r : Tree ℕ I} → A .below (f s) (f (least r)) ≡ true → Strikes l l′ → Strikes (node i l r) (node (R .strike s i) l′ r)
-      inRight : {i : I} {l r r′ : Tree ℕ I} → A .below (f s) (f (least r)) ≡ false → Strikes r r′ → Strikes (node i l r) (node (R .strike s i) l r′)
+      inLeft : {i : I} {l l′ r : Tree ℕ I} → A .below (f s) (f (least r)) ≡ true → Strikes l l′
+          → Strikes (node i l r) (node (R .strike s i) l′ r)
+      inRight : {i : I} {l r r′ : Tree ℕ I} → A .below (f s) (f (least r)) ≡ false → Strikes r r′
+          → Strikes (node i l r) (node (R .strike s i) l r′)
 
     abbrev StrikesTo : Tree ℕ I → Option (Tree ℕ I) → Type 0
     StrikesTo t none = t ≡ leaf s
@@ -195,7 +197,8 @@ module _ {I : Type 0} (A : Axis Mark Box) (f : ℕ → Mark) (R : Register ℕ B
   }
 
   -- a node that will not be even is built afresh of its other slots
-  afresh-holds : (d : ℕ) (t t′ : Tree ℕ I) (xs : List ℕ) → Strikes A f s R t t′ → Region place C (length xs) → Held A f place C xs t → depth t < 40
+  afresh-holds : (d : ℕ) (t t′ : Tree ℕ I) (xs : List ℕ) → Strikes A f s R t t′ → Region place C (length xs) → Held A f place C xs t
+      → depth t < 40
       → rebalance X R t′ ≡ build X R d (marks t′) → rebuilt t′ ≡ weight t′
       → LeavesStruck xs t t′ (strikeAfresh A C place s (weight t) (number t) xs)
   unfolding strikeAfresh freshStrike strikeOf

@@ -25,8 +25,8 @@ nodeAt place at name l r xs = putArm (putRecord xs (place name) l r) at (overArm
 unfoldable pub split♯ : Axis Mark Box → (ℕ → ℕ) → Mark → ℕ → ℕ → Arm → List ℕ → List ℕ
 split♯ A place m s at q xs =
     if A .below m (slotMark xs (q .node / 2))
-    then nodeAt place at (q .node / 2) (leafArm s (A .at m)) q xs
-    else nodeAt place at s q (leafArm s (A .at m)) xs
+    then nodeAt place at (q .node / 2) (leafArm s (A .at m) (m .grade)) q xs
+    else nodeAt place at s q (leafArm s (A .at m) (m .grade)) xs
 
 unfoldable pub putFresh : ℕ → ℕ → After Arm → After ℕ
 putFresh at w p = if eqb (p .out .weight) 0 then after damaged (p .words) else after w (putArm (p .words) at (p .out))
@@ -52,7 +52,7 @@ insertAfresh A rec capacity place at xs = let p : After ℕ = rec false at xs in
 unfoldable pub insertChild : Axis Mark Box → Insertion → ℕ → (ℕ → ℕ) → Mark → ℕ → Way → Bool → ℕ → Arm → List ℕ → After ℕ
 insertChild A rec capacity place m name v mends at a xs =
     if unbalances mends (v .child .weight) (v .sibling .weight) then insertAfresh A rec capacity place at xs
-    else rec mends (childAt (place name) (v .left)) (putArm xs at (grownArm a (A .at m)))
+    else rec mends (childAt (place name) (v .left)) (putArm xs at (grownArm a (A .at m) (m .grade)))
 
 -- children whose weights are not the node's are damage
 unfoldable pub insertWay : Axis Mark Box → Insertion → ℕ → (ℕ → ℕ) → Mark → ℕ → Way → Bool → ℕ → Arm → List ℕ → After ℕ
@@ -74,12 +74,14 @@ unfoldable pub insert♯ : Axis Mark Box → ℕ → ℕ → (ℕ → ℕ) → M
 insert♯ A zero capacity place m s mends at xs = after damaged xs
 insert♯ A (suc f) capacity place m s mends at xs = insertNode A (insert♯ A f capacity place m s) capacity place m s mends at xs
 
-pub insert♯-zero : (f : ℕ) → f ≡ 0 → (A : Axis Mark Box) (capacity : ℕ) (place : ℕ → ℕ) (m : Mark) (s : ℕ) (mends : Bool) (at : ℕ) (xs : List ℕ)
+pub insert♯-zero : (f : ℕ) → f ≡ 0
+    → (A : Axis Mark Box) (capacity : ℕ) (place : ℕ → ℕ) (m : Mark) (s : ℕ) (mends : Bool) (at : ℕ) (xs : List ℕ)
     → insert♯ A f capacity place m s mends at xs ≡ after damaged xs
 unfolding insert♯
 insert♯-zero f e A capacity place m s mends at xs = rw e
 
-pub insert♯-suc : (f : ℕ) → (f ≡ 0 → ⊥) → (A : Axis Mark Box) (capacity : ℕ) (place : ℕ → ℕ) (m : Mark) (s : ℕ) (mends : Bool) (at : ℕ) (xs : List ℕ)
+pub insert♯-suc : (f : ℕ) → (f ≡ 0 → ⊥)
+    → (A : Axis Mark Box) (capacity : ℕ) (place : ℕ → ℕ) (m : Mark) (s : ℕ) (mends : Bool) (at : ℕ) (xs : List ℕ)
     → insert♯ A f capacity place m s mends at xs ≡ insertNode A (insert♯ A (f - 1) capacity place m s) capacity place m s mends at xs
 unfolding insert♯
 insert♯-suc zero h A capacity place m s mends at xs = absurd (h refl)

@@ -23,7 +23,7 @@ fn split(t: &mut [u32], base: u32, capacity: u32, at: usize, q: SecondaryArm, m:
     requires { ⌜ (secondaryArm q .node / 2 < capacity) × (s < capacity) × There base capacity at (now t) ⌝ }
     ensures { λ _. ⌜ now (t .exit) ≡ split♯ alongY (recordPlace base) (markValue m) s at (secondaryArm q) (now (t .entry)) ⌝ }
 {
-    let new = SecondaryArm::leaf(s, m.y);
+    let new = SecondaryArm::leaf(s, m.y, m.grade);
     let node = q.node;
     let name = node.slot();
     if m.below_y(slots::load(t, name)) {
@@ -112,7 +112,7 @@ fn insert_beneath(t: &mut [u32], base: u32, capacity: u32, start: usize, m: Mark
             mends = false;
             top = at;
         } else {
-            SecondaryArm::store(t, at, a.grown(m.y));
+            SecondaryArm::store(t, at, a.grown(m.y, m.grade));
             at = SecondaryRecord::child(base, name, fork.left);
         }
     }

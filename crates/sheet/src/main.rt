@@ -12,7 +12,7 @@ use libc::STDIN_FILENO;
 use libc::STDOUT_FILENO;
 
 // The marks that the table is opened for.
-const MARKS: u32 = 60;
+const MARKS: u32 = 40;
 
 // Why the program reads no more: the input is at its end, with an open line of so many bytes; or a read or a write failed.
 enum Stop {
@@ -148,9 +148,9 @@ fn run(table: &mut [u32], first: &mut [u32], second: &mut [u32], line: &mut [u8]
 }
 
 fn main() {
-    let mut table = [0u32; 15424];
-    let mut first = [0u32; 180];
-    let mut second = [0u32; 180];
+    let mut table = [0u32; 13184];
+    let mut first = [0u32; 160];
+    let mut second = [0u32; 160];
     let mut line = [0u8; 48];
     // Far more than the longest response, so that the responses to a chunk go out in few writes.
     let mut out = [0u8; 65536];

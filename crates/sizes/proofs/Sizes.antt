@@ -36,9 +36,9 @@ pub levelsFor-few : (c d : ℕ) → d ≡ levelsFor c → d ≤ 38
 levelsFor-few c d e = omega (arith, levelsFor-most c)
 
 -- no product of a word and a level's words overflows
-pub words-fit : (c d : ℕ) → c < 2 ^ 32 → d ≤ 38 → c * (32 + 16 * d) ≤ 2 ^ 32 * 640
+pub words-fit : (c d : ℕ) → c < 2 ^ 32 → d ≤ 38 → c * (40 + 24 * d) ≤ 2 ^ 32 * 952
 words-fit c d h k =
-    let g : 32 + 16 * d ≤ 640 = omega arith in
+    let g : 40 + 24 * d ≤ 952 = omega arith in
     let f : c ≤ 2 ^ 32 = omega arith in
     mul-le-mul f g
 
@@ -48,7 +48,7 @@ visits-fit d h = mul-le-mul {n₁ = 4 * d + 1} {m₁ = 2 * d + 1} {n₂ = 153} {
 
 -- in range, by the levels
 pub size-within : (c d : ℕ) → capacityOutside c ≡ false → d ≡ levelsFor c
-    → (64 + c * (32 + 16 * d) ≡ wordsFor c) × ((4 * d + 1) * (2 * d + 1) ≡ visitsFor c)
+    → (64 + c * (40 + 24 * d) ≡ wordsFor c) × ((4 * d + 1) * (2 * d + 1) ≡ visitsFor c)
 unfolding W visitsWithin
 size-within c d h e = rw (h, e, levelsFor-within c (capacity-small c h)) (refl, refl)
 

@@ -81,9 +81,9 @@ fn is_outside(capacity: u32) -> bool
 // W(C) by its levels.
 fn words_by(capacity: u32, levels: u32) -> usize
     requires { ⌜ levels ≤ 38 ⌝ }
-    ensures { λ r. ⌜ r ≡ 64 + capacity * (32 + 16 * levels) ⌝ }
+    ensures { λ r. ⌜ r ≡ 64 + capacity * (40 + 24 * levels) ⌝ }
 {
-    64 + (capacity as usize) * (32 + 16 * (levels as usize))
+    64 + (capacity as usize) * (40 + 24 * (levels as usize))
 }
 
 pub fn size_for(capacity: u32) -> Size

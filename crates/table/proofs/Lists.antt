@@ -11,6 +11,6 @@ pub markWords-append : (l r : List Mark) → markWords (l ++ r) ≡ markWords l 
 markWords-append [] r = refl
 markWords-append (m ∷ l) r = rw (markWords-append l r)
 
-pub markWords-length : (l : List Mark) → length (markWords l) ≡ 3 * length l
+pub markWords-length : (l : List Mark) → length (markWords l) ≡ 4 * length l
 markWords-length [] = refl
 markWords-length (m ∷ l) = omega (arith, markWords-length l)

@@ -18,10 +18,10 @@ use Rattle.table.specs.Layout.{openPlace}
 use Rattle.table.specs.Limits.{mostVisits}
 use Rattle.table.specs.Header.{capacityOf, liveOf, notTable, ownWords, ownVisits}
 
--- the words that a table needs are no fewer than the 96 of the first test
-W-least : (c : ℕ) → 1 ≤ c → 96 ≤ W c
+-- the words that a table needs are no fewer than the 104 of the first test
+W-least : (c : ℕ) → 1 ≤ c → 104 ≤ W c
 unfolding W
-W-least c h = omega (arith, mul-le-mul-right {m = 1} {n = c} (32 + 16 * D c) h)
+W-least c h = omega (arith, mul-le-mul-right {m = 1} {n = c} (40 + 24 * D c) h)
 
 module _ (xs : List ℕ) where
   pub own-table : (ownWords xs ≡ 0 → ⊥)
@@ -32,7 +32,7 @@ module _ (xs : List ℕ) where
       by-cases (notTable xs)
       (λ t. absurd (h (rw t)))
       (λ f.
-      let a = or-neither (ltb (length xs) 96) _ f in
+      let a = or-neither (ltb (length xs) 104) _ f in
       let b = or-neither (not (eqb (getD xs openPlace 0) 1)) _ (a .1) in
       let c = or-neither (capacityOutside (capacityOf xs)) _ (b .1) in
       let d = or-neither (ltb (length xs) (W (capacityOf xs))) (ltb (capacityOf xs) (liveOf xs)) (c .1) in (
@@ -49,7 +49,7 @@ module _ (xs : List ℕ) where
   table-own isOpen within live long =
       let least = W-least (capacityOf xs) (capacity-some (capacityOf xs) within) in (
         rw (
-          le-ltb (length xs) 96 (omega arith),
+          le-ltb (length xs) 104 (omega arith),
           eq-eqb (getD xs openPlace 0) 1 isOpen,
           within,
           le-ltb (length xs) (W (capacityOf xs)) long,
@@ -59,13 +59,13 @@ module _ (xs : List ℕ) where
       )
 
   -- what is asked for a capacity out of range is 0, so the code does not ask for the capacity itself
-  module _ (h : 96 ≤ length xs) (isOpen : eqb (getD xs openPlace 0) 1 ≡ true) where
+  module _ (h : 104 ≤ length xs) (isOpen : eqb (getD xs openPlace 0) 1 ≡ true) where
     own-asked : (inside : ℕ)
         → (if notTable xs then 0 else inside) ≡ (if ltb (length xs) (wordsFor (capacityOf xs)) then 0
         else (if ltb (capacityOf xs) (liveOf xs) then 0 else (if capacityOutside (capacityOf xs) then 0 else inside)))
     unfolding notTable
     own-asked inside =
-        rw (le-ltb (length xs) 96 h, isOpen) (
+        rw (le-ltb (length xs) 104 h, isOpen) (
         by-cases (capacityOutside (capacityOf xs))
         (λ t. rw (t, le-ltb (length xs) 0 (omega arith)) (by-cases (ltb (capacityOf xs) (liveOf xs)) (λ u. rw u) (λ u. rw u)))
         (λ f. rw f (by-cases (ltb (length xs) (W (capacityOf xs))) (λ u. rw u) (λ u. rw u))))
@@ -92,6 +92,6 @@ module _ (xs : List ℕ) where
       (λ t. rw t (omega arith))
       (λ f.
       let c = capacityOf xs in
-      let long = or-neither (ltb (length xs) 96) _ f .1 in
+      let long = or-neither (ltb (length xs) 104) _ f .1 in
       let inside = or-neither (capacityOutside c) _ (or-neither (not (eqb (getD xs openPlace 0) 1)) _ long .1) .0 in
       rw f (visits-fit (D c) (omega (arith, levelsFor-most c, levelsFor-within c (capacity-small c inside)))))

@@ -13,6 +13,7 @@ next : (at k : ℕ) → suc (at + k) ≡ at + suc k
 next at k = omega arith
 
 module _ (xs : List ℕ) (at : ℕ) where
-  pub putMark-stores : (m : Mark) → at + 3 ≤ length xs → set (set (set xs at (m .x)) (at + 1) (m .y)) (at + 2) (m .tag) ≡ putMark xs at m
+  pub putMark-stores : (m : Mark) → at + 4 ≤ length xs
+      → set (set (set (set xs at (m .x)) (at + 1) (m .y)) (at + 2) (m .tag)) (at + 3) (m .grade) ≡ putMark xs at m
   unfolding putMark
-  putMark-stores m h = let e : suc at ≡ at + 1 = omega arith in rw (le-leb (at + 3) (length xs) h, e, next at 1)
+  putMark-stores m h = let e : suc at ≡ at + 1 = omega arith in rw (le-leb (at + 4) (length xs) h, e, next at 1, next at 2)

@@ -1,5 +1,5 @@
 -- "any other call, table: 3: shorter than 96 words, word 0 not 1, C outside its range, shorter than W(C), or live above C" (document 01, "Where each call
--- may stop"). Assumes nothing.
+-- may stop"); "the 96-word floor becomes 104" (R-1). Assumes nothing.
 use Prim.Native.Nat.{ℕ, _≤_}
 use mathlib.Core.Path.{_≡_}
 use mathlib.Core.Bool.{Bool, not, _||_}
@@ -24,7 +24,7 @@ OfCapacity capacity xs = (capacity ≡ capacityOf xs) × (runsEnd capacity ≤ l
 
 unfoldable pub notTable : List ℕ → Bool
 notTable xs =
-    ltb (length xs) 96
+    ltb (length xs) 104
     || (not (eqb (getD xs openPlace 0) 1)
     || (capacityOutside (capacityOf xs)
     || (ltb (length xs) (W (capacityOf xs))

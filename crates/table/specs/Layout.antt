@@ -7,24 +7,28 @@ headerWidth = 64
 
 -- words of a mark, of an arm, and of a record, two arms
 abbrev pub markWidth : ℕ
-markWidth = 3
+markWidth = 4
 
 abbrev pub armWidth : ℕ
-armWidth = 4
+armWidth = 5
 
 abbrev pub recordWidth : ℕ
-recordWidth = 8
+recordWidth = 10
 
--- words of a slot: its mark, the record of the main node named so, the arm of that node's auxiliary tree, one unused
+-- words of a main node in a slot: its record, and the arm of its auxiliary tree
+abbrev pub nodeWidth : ℕ
+nodeWidth = recordWidth + armWidth
+
+-- words of a slot: its mark, the record of the main node named so, the arm of that node's auxiliary tree
 abbrev pub slotWidth : ℕ
-slotWidth = 16
+slotWidth = 19
 
 -- words for each slot beside the levels, and in each level
 abbrev pub besideWidth : ℕ
-besideWidth = 32
+besideWidth = 40
 
 abbrev pub levelWidth : ℕ
-levelWidth = 16
+levelWidth = 24
 
 -- "Word 0 is 1 for an open table, word 1 is C, word 2 the live marks." (document 01, "Marks, boxes, tables")
 abbrev pub openPlace : ℕ
@@ -73,7 +77,7 @@ module _ (capacity : ℕ) where
 abbrev pub recordPlace : ℕ → ℕ → ℕ
 recordPlace base name = base + recordWidth * name
 
--- the mark k of a list: "Three words a mark" (document 01, "The list")
+-- the mark k of a list: "lists (four words a mark)" (R-1)
 abbrev pub listPlace : ℕ → ℕ
 listPlace k = markWidth * k
 

@@ -6,4 +6,6 @@ pub mod Limits
 pub mod Marks
 pub mod Runs
 pub mod Tally
+pub mod Grades
+pub mod Figures
 pub mod After

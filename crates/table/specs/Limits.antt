@@ -25,6 +25,10 @@ noSlot = 4294967295
 abbrev pub absent : ℕ
 absent = 4294967294
 
--- the tally of a search that met damage: more visits than any budget, and so many that a few visits more leave it so
+-- the tally of a listing that met damage: more visits than any budget, and so many that a few visits more leave it so
 abbrev pub lost : ℕ
 lost = 2147483648
+
+-- the tally of a count that met damage: 2^15 visits, more than the most
+abbrev pub lostCount : ℕ
+lostCount = 70368744177664

@@ -1,4 +1,4 @@
--- A search's tally: 2^32 times the marks found, and the visits. Assumes nothing.
+-- A listing's tally: 2^32 times the marks found, and the visits. Assumes nothing.
 use Prim.Native.Nat.{ℕ, _+_, _*_, _%_, _^_}
 
 -- one visit more, with w marks

@@ -2,7 +2,7 @@
 // the layout.
 
 // The shortest table, of capacity 1; and the words before the slots.
-pub const SHORTEST: usize = 96;
+pub const SHORTEST: usize = 104;
 
 pub const HEADER: usize = 64;
 
@@ -16,16 +16,16 @@ pub const LIVE: usize = 2;
 pub const ROOT: usize = 3;
 
 // Words of a mark, of an arm, and of a record, two arms.
-pub const MARK: usize = 3;
+pub const MARK: usize = 4;
 
-pub const ARM: usize = 4;
+pub const ARM: usize = 5;
 
-pub const RECORD: usize = 8;
+pub const RECORD: usize = 10;
 
-// Words of a slot: its mark, the record of the main node named so, the arm of that node's auxiliary tree, one unused.
-pub const SLOT: usize = 16;
+// Words of a slot: its mark, the record of the main node named so, the arm of that node's auxiliary tree.
+pub const SLOT: usize = 19;
 
 // Words for each slot beside the levels, and in each level.
-pub const BESIDE: usize = 32;
+pub const BESIDE: usize = 40;
 
-pub const LEVEL: usize = 16;
+pub const LEVEL: usize = 24;

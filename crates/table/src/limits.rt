@@ -15,5 +15,8 @@ pub const NO_SLOT: u32 = 4294967295;
 // In place of a slot, where the table does not have the mark.
 pub const ABSENT: u32 = 4294967294;
 
-// The tally of a search that met damage: more visits than any budget, and so many that a few visits more leave it so.
+// The tally of a listing that met damage: more visits than any budget, and so many that a few visits more leave it so.
 pub const LOST: u64 = 2147483648;
+
+// The tally of a count that met damage: 2^15 visits, more than the most.
+pub const LOST_COUNT: u64 = 70368744177664;

@@ -17,6 +17,7 @@ fn read(t: &[u32], at: usize) -> Mark
         x: t[at],
         y: t[at + 1],
         tag: t[at + 2],
+        grade: t[at + 3],
     }
 }
 
@@ -27,6 +28,7 @@ fn write(t: &mut [u32], at: usize, m: Mark)
     t[at] = m.x;
     t[at + 1] = m.y;
     t[at + 2] = m.tag;
+    t[at + 3] = m.grade;
 }
 
 // The mark in slot s, whose words are there.
@@ -45,7 +47,7 @@ pub fn store(t: &mut [u32], s: u32, m: Mark)
     write(t, layout::HEADER + layout::SLOT * (s as usize), m);
 }
 
-// The mark at the place k of a list, three words a mark; zeros where they are not all there.
+// The mark at the place k of a list, four words a mark; zeros where they are not all there.
 pub fn listed(list: &[u32], k: u32) -> Mark
     ensures { λ r. ⌜ markValue r ≡ listMark (now (list .entry)) k ⌝ }
 {
@@ -53,7 +55,12 @@ pub fn listed(list: &[u32], k: u32) -> Mark
     if at + layout::MARK <= list.len() {
         return read(list, at);
     }
-    Mark { x: 0, y: 0, tag: 0 }
+    Mark {
+        x: 0,
+        y: 0,
+        tag: 0,
+        grade: 0,
+    }
 }
 
 // Puts a mark at the place k of a list, where its words are all there.

@@ -1,4 +1,4 @@
-// What a search has come to so far. One number, which stays in a register: 2^32 times the marks found, and the visits. No other file knows how it is packed.
+// What a listing has come to so far. One number, which stays in a register: 2^32 times the marks found, and the visits. No other file knows how it is packed.
 ghost use mathlib.Core.Path.{_≡_};
 ghost use Prim.Native.Nat.{_/_, _%_};
 ghost use Rattle.table.specs.Limits.{lost};
@@ -14,7 +14,7 @@ impl Tally {
         Tally(0)
     }
 
-    // Of a search that met damage.
+    // Of a listing that met damage.
     pub fn lost() -> Tally
         ensures { λ r. ⌜ r .0 ≡ lost ⌝ }
     {
@@ -22,38 +22,17 @@ impl Tally {
     }
 
     // One visit more, with w marks.
-    fn with(self, w: u32) -> Tally
+    pub fn take(self, w: u32) -> Tally
         ensures { λ r. ⌜ r .0 ≡ visited (self .0) w ⌝ }
     {
         Tally(std::num::wrapping_add_u64(self.0, 4294967296 * (w as u64) + 1))
     }
 
-    // The arrival at a node that is opened, or of which nothing is counted.
+    // The arrival at a node that is opened, or of which nothing is listed.
     pub fn visit(self) -> Tally
         ensures { λ r. ⌜ r .0 ≡ visited (self .0) 0 ⌝ }
     {
-        self.with(0)
-    }
-
-    // At a tree of weight w inside the side.
-    pub fn take(self, w: u32) -> Tally
-        ensures { λ r. ⌜ r .0 ≡ visited (self .0) w ⌝ }
-    {
-        self.with(w)
-    }
-
-    // At a tree of weight w that ends before the side.
-    pub fn before(self, w: u32) -> Tally
-        ensures { λ r. ⌜ r .0 ≡ visited (self .0) 0 ⌝ }
-    {
-        self.with(0)
-    }
-
-    // At a tree that begins past the side.
-    pub fn past(self) -> Tally
-        ensures { λ r. ⌜ r .0 ≡ visited (self .0) 0 ⌝ }
-    {
-        self.with(0)
+        self.take(0)
     }
 
     pub fn visits(self) -> u32

@@ -29,7 +29,8 @@ module _ (C d owner : ℕ) {P : ℕ → Type 0} {xs ys : List ℕ} (own : owner 
   pub beneath-record : (s : ℕ) → s < C → recordAt ys (mainPlace s) ≡ recordAt xs (mainPlace s)
   beneath-record s h = unchanged-record a (mainPlace s) (omega arith)
 
-  pub beneath-two : (f : ℕ → Mark) (e : ℕ) (u : SlotMain) → d < e → ((s : ℕ) → Names u s → s ≡ owner → ⊥) → TwoFold f C e xs u → TwoFold f C e ys u
+  pub beneath-two : (f : ℕ → Mark) (e : ℕ) (u : SlotMain) → d < e → ((s : ℕ) → Names u s → s ≡ owner → ⊥) → TwoFold f C e xs u
+      → TwoFold f C e ys u
   beneath-two f e u low out h =
       unchanged-two a e u
       (λ s n k. let other : (s ≡ owner → ⊥) = out s k in omega arith)

@@ -9,7 +9,8 @@ use lib.ListN.{getD}
 use Rattle.model.specs.Tree.{Tree, least}
 use Rattle.model.specs.Sheet.{Mark, alongY}
 use Rattle.model.proofs.Logic.{by-order}
-use Rattle.table.specs.Layout.{capacityPlace, slotPlace, mainPlace, auxiliaryPlace, usedPlace, runPlace, levelPlace, recordPlace}
+use Rattle.table.specs.Layout.{markWidth, armWidth, recordWidth, nodeWidth, capacityPlace, slotPlace, mainPlace, auxiliaryPlace, usedPlace, runPlace}
+use Rattle.table.specs.Layout.{levelPlace, recordPlace}
 use Rattle.table.specs.Marks.{slotMark}
 use Rattle.nodes.specs.Arms.{armAt, recordAt}
 use Rattle.nodes.specs.Holds.{times, Held}
@@ -25,22 +26,24 @@ use Rattle.twofold_layout.proofs.Same.{unchanged-two}
 pub record Clear (C at w : ℕ) : Type 0 where
   pub low : at + w ≤ usedPlace C 0
   pub afterCapacity : Off at (at + w) capacityPlace
-  pub offMarks : (q : ℕ) → q < C → Apart at w (slotPlace q) 3
+  pub offMarks : (q : ℕ) → q < C → Apart at w (slotPlace q) markWidth
 
 pub clear-none : {C : ℕ} → Clear C 0 0
 clear-none = omega arith
 
-pub clear-spot : {C at : ℕ} {P : ℕ → Type 0} → TwoSpot C P at → Clear C at 4
+pub clear-spot : {C at : ℕ} {P : ℕ → Type 0} → TwoSpot C P at → Clear C at armWidth
 clear-spot t = record { low = t .low; afterCapacity = omega (arith, t .afterCapacity); offMarks = t .offMarks }
 
-module _ {C d at w : ℕ} {P Q : ℕ → Type 0} {xs ys : List ℕ} (inP : (s : ℕ) → P s → s < C) (c : Clear C at w) (a : TwoFrame C d P Q at w xs ys) where
+module _ {C d at w : ℕ} {P Q : ℕ → Type 0}
+    {xs ys : List ℕ} (inP : (s : ℕ) → P s → s < C) (c : Clear C at w) (a : TwoFrame C d P Q at w xs ys) where
   -- WORDS THAT ARE KEPT
 
-  marks-kept : (s : ℕ) → s < C → Keeps (OffTwo C d P Q at w) (slotPlace s) (slotPlace s + 3)
+  marks-kept : (s : ℕ) → s < C → Keeps (OffTwo C d P Q at w) (slotPlace s) (slotPlace s + markWidth)
   marks-kept s h i l u = record { tree = omega arith; runs = omega arith; spot = λ k. omega (arith, c .offMarks s h (omega arith)) }
 
   -- of a main node that P does not tell, those apart from the w at `at`
-  node-kept : (q k u : ℕ) → q < C → (P q → ⊥) → mainPlace q ≤ k → k + u ≤ mainPlace q + 12 → Apart at w k u → Keeps (OffTwo C d P Q at w) k (k + u)
+  node-kept : (q k u : ℕ) → q < C → (P q → ⊥) → mainPlace q ≤ k → k + u ≤ mainPlace q + nodeWidth → Apart at w k u
+      → Keeps (OffTwo C d P Q at w) k (k + u)
   node-kept q k u h out low high off i l m = record {
     tree = record {
       nodes = λ s p. by-order s q (λ o. omega arith) (λ e. absurd (out (subst P e p))) (λ o. omega arith);
@@ -52,7 +55,7 @@ module _ {C d at w : ℕ} {P Q : ℕ → Type 0} {xs ys : List ℕ} (inP : (s : 
 
   -- of the record s in the level e, where Q does not tell it in the levels from d on
   level-kept : (e s : ℕ) → s < C → ((q : ℕ) → Q q → q < C) → (d ≤ e → Q s → ⊥)
-      → Keeps (OffTwo C d P Q at w) (recordPlace (levelPlace C e) s) (recordPlace (levelPlace C e) s + 8)
+      → Keeps (OffTwo C d P Q at w) (recordPlace (levelPlace C e) s) (recordPlace (levelPlace C e) s + recordWidth)
   level-kept e s h inQ out i l u = record {
     tree = record {
       nodes = λ q p. omega (arith, inP q p);
@@ -84,13 +87,14 @@ module _ {C d at w : ℕ} {P Q : ℕ → Type 0} {xs ys : List ℕ} (inP : (s : 
   pub kept-mark : (s : ℕ) → s < C → slotMark ys s ≡ slotMark xs s
   kept-mark s h = unchanged-mark a s (marks-kept s h)
 
-  pub kept-record : (q : ℕ) → q < C → (P q → ⊥) → Apart at w (mainPlace q) 8 → recordAt ys (mainPlace q) ≡ recordAt xs (mainPlace q)
-  kept-record q h out off = unchanged-record a (mainPlace q) (node-kept q (mainPlace q) 8 h out (omega arith) (omega arith) off)
+  pub kept-record : (q : ℕ) → q < C → (P q → ⊥) → Apart at w (mainPlace q) recordWidth → recordAt ys (mainPlace q) ≡ recordAt xs (mainPlace q)
+  kept-record q h out off = unchanged-record a (mainPlace q) (node-kept q (mainPlace q) recordWidth h out (omega arith) (omega arith) off)
 
-  pub kept-auxiliary : (q : ℕ) → q < C → (P q → ⊥) → Apart at w (auxiliaryPlace q) 4 → armAt ys (auxiliaryPlace q) ≡ armAt xs (auxiliaryPlace q)
-  kept-auxiliary q h out off = unchanged-arm a (auxiliaryPlace q) (node-kept q (auxiliaryPlace q) 4 h out (omega arith) (omega arith) off)
+  pub kept-auxiliary : (q : ℕ) → q < C → (P q → ⊥) → Apart at w (auxiliaryPlace q) armWidth
+      → armAt ys (auxiliaryPlace q) ≡ armAt xs (auxiliaryPlace q)
+  kept-auxiliary q h out off = unchanged-arm a (auxiliaryPlace q) (node-kept q (auxiliaryPlace q) armWidth h out (omega arith) (omega arith) off)
 
-  pub kept-arm : (at′ : ℕ) → TwoSpot C P at′ → Apart at w at′ 4 → armAt ys at′ ≡ armAt xs at′
+  pub kept-arm : (at′ : ℕ) → TwoSpot C P at′ → Apart at w at′ armWidth → armAt ys at′ ≡ armAt xs at′
   kept-arm at′ t off =
       unchanged-arm a at′ (λ i l u. record {
         tree = record { nodes = λ q p k. omega (arith, t .offNodes q p (omega arith)); levels = omega (arith, t .low) };
@@ -111,7 +115,8 @@ module _ {C d at w : ℕ} {P Q : ℕ → Type 0} {xs ys : List ℕ} (inP : (s : 
         (λ s k. kept-mark s (h .within s k)) h
 
     -- the auxiliary tree of a main node that P does not tell, in a level above
-    pub kept-own : (e name : ℕ) (o : SlotAuxiliary) → e < d → ((q : ℕ) → Q q → q < C) → name < C → (P name → ⊥) → Apart at w (auxiliaryPlace name) 4
+    pub kept-own : (e name : ℕ) (o : SlotAuxiliary) → e < d → ((q : ℕ) → Q q → q < C) → name < C → (P name → ⊥)
+        → Apart at w (auxiliaryPlace name) armWidth
         → HoldsAuxiliary f C e name xs o → HoldsAuxiliary f C e name ys o
     kept-own e name o high inQ n out off h = record {
       tree = h .tree;
@@ -122,10 +127,10 @@ module _ {C d at w : ℕ} {P Q : ℕ → Type 0} {xs ys : List ℕ} (inP : (s : 
 
     -- THE TREE: a two-fold tree that has none of Q's slots, and no inner node that P tells
     pub kept-two : (e : ℕ) (u : SlotMain) → ((q : ℕ) → Q q → q < C) → ((s : ℕ) → P s → (times s u ≡ 0) ⊎ (s ≡ least u))
-        → ((s : ℕ) → Q s → times s u ≡ 0) → AuxiliariesOf f u → ((s : ℕ) → Names u s → Apart at w (mainPlace s) 12)
+        → ((s : ℕ) → Q s → times s u ≡ 0) → AuxiliariesOf f u → ((s : ℕ) → Names u s → Apart at w (mainPlace s) nodeWidth)
         → TwoFold f C e xs u → TwoFold f C e ys u
     kept-two e u inQ tells none of off h =
         unchanged-two a e u
-        (λ s n k. node-kept s (mainPlace s) 12 n (λ p. names-none u s (tells s p) k) (omega arith) (omega arith) (off s k))
+        (λ s n k. node-kept s (mainPlace s) nodeWidth n (λ p. names-none u s (tells s p) k) (omega arith) (omega arith) (off s k))
         (λ s t. marks-kept s (t .0))
         (λ b s l t. level-kept b s (t .0) inQ (λ low q. omega (arith, none s q, t .1 of))) h

@@ -8,6 +8,7 @@ use mathlib.Core.Option.{some, Option·map}
 use native.Mathlib.Omega.{arith}
 use lib.Dec.{eqb}
 use borrow.Author.Tests.{eq-eqb}
+use Rattle.model.specs.Totals.{total}
 use Rattle.model.specs.Axis.{Axis}
 use Rattle.model.specs.Tree.{Tree, leaf, node, marks, least, greatest}
 use Rattle.model.specs.Sheet.{Mark, Box, alongX, alongY}
@@ -15,6 +16,7 @@ use Rattle.model.specs.Slots.{slotAxis, mapTree}
 use Rattle.model.specs.Laws.{All, nil, cons, Sorted, sorted[], sorted∷}
 use Rattle.model.proofs.Lists.{countIf-append}
 use Rattle.nodes.specs.Arms.{arms}
+use Rattle.table.specs.Grades.{grading}
 use Rattle.nodes.specs.Holds.{armOf, Holds, timesIn, times, Held, CarriesBag}
 use Rattle.nodes.proofs.Held.{times-node, times-least}
 use Rattle.twofold_layout.specs.Rules.{SlotAuxiliary, SlotMain, AuxiliaryOf, AuxiliariesOf, ByRules, marksMain}
@@ -43,13 +45,17 @@ module _ (f g : ℕ → Mark) where
 
   -- WORDS
 
+  grades-marks : (l : List ℕ) → SameOn l → total (grading .join) (λ s. grading .of (f s)) l ≡ total (grading .join) (λ s. grading .of (g s)) l
+  grades-marks [] same = refl
+  grades-marks (s ∷ l) same = rw (same-head s l same, grades-marks l (same-tail s l same))
+
   module _ {I : Type 0} (A : Axis Mark Box) where
     times-greatest : (t : Tree ℕ I) → 0 < times (greatest t) t
     times-greatest (leaf s) = rw (eq-eqb s s refl) (omega arith)
     times-greatest (node i l r) = omega (arith, times-node (greatest r) i l r, times-greatest r)
 
     pub armOf-marks : (t : Tree ℕ I) → SameOn (marks t) → armOf A f t ≡ armOf A g t
-    armOf-marks t same = rw (same (least t) (times-least t), same (greatest t) (times-greatest t))
+    armOf-marks t same = rw (same (least t) (times-least t), same (greatest t) (times-greatest t), grades-marks (marks t) same)
 
     holds-marks : (place : ℕ → ℕ) (xs : List ℕ) (t : Tree ℕ I) → SameOn (marks t) → Holds A f place xs t → Holds A g place xs t
     holds-marks place xs (leaf s) same h = tt
@@ -134,7 +140,8 @@ module _ (f g : ℕ → Mark) where
       let er = tree-same r (same-after (marks l) (marks r) same) (c .2) in
       rw (e, el, er)
 
-  auxiliary-same : {l : List ℕ} (o : SlotAuxiliary) → SameOn l → AuxiliaryOf f l o → Option·map (mapTree f (map f)) o ≡ Option·map (mapTree g (map g)) o
+  auxiliary-same : {l : List ℕ} (o : SlotAuxiliary) → SameOn l → AuxiliaryOf f l o
+      → Option·map (mapTree f (map f)) o ≡ Option·map (mapTree g (map g)) o
   auxiliary-same {l = l} o same a =
       rw (a .is) (ap some (tree-same (a .tree) (same-bag l (marks (a .tree)) (λ s. a .bag (eqb s)) same) (a .carries)))
 

@@ -9,7 +9,7 @@ use lib.ListN.{length}
 use Rattle.model.specs.Sizes.{W}
 use Rattle.model.specs.Tree.{Tree, node, weight, least}
 use Rattle.model.specs.Sheet.{Mark, alongX, alongY}
-use Rattle.table.specs.Layout.{mainPlace, auxiliaryPlace, rootPlace, levelPlace, recordPlace}
+use Rattle.table.specs.Layout.{armWidth, nodeWidth, mainPlace, auxiliaryPlace, rootPlace, levelPlace, recordPlace}
 use Rattle.nodes.specs.Arms.{Arm, arms, overArm, recordAt, putArm, putRecord}
 use Rattle.nodes.specs.Holds.{armOf, times, Held}
 use Rattle.nodes.proofs.Unchanged.{unchanged-trans, unchanged-record, putArm-unchanged, putRecord-unchanged}
@@ -23,7 +23,8 @@ use Rattle.twofold_layout.proofs.Over.{TwoLeaves, TwoLeavesAt, two-over
 
 -- BESIDE: a tree with no slot of the one that is changed
 pub kept-sibling : {f : ℕ → Mark} {C d : ℕ} {xs ys : List ℕ} (e : ℕ) (t u : SlotMain) → TwoFrame C d (Names t) (λ s. 0 < times s t) 0 0 xs ys
-    → ((s : ℕ) → 0 < times s t → s < C) → ((s : ℕ) → times s t + times s u ≤ 1) → AuxiliariesOf f u → TwoFold f C e xs u → TwoFold f C e ys u
+    → ((s : ℕ) → 0 < times s t → s < C) → ((s : ℕ) → times s t + times s u ≤ 1) → AuxiliariesOf f u → TwoFold f C e xs u
+    → TwoFold f C e ys u
 kept-sibling e t u a inC apart of h =
     kept-two (λ s p. inC s (p .0)) clear-none a e u inC (λ s p. inl (omega (arith, p .0, apart s)))
     (λ s q. omega (arith, apart s)) of (omega arith) h
@@ -41,7 +42,7 @@ module _ {f : ℕ → Mark} {C d : ℕ} (small : C ≤ 65536) (l r : SlotMain) (
   own : least r < C
   own = held-least (hr .main)
 
-  room : mainPlace (least r) + 12 ≤ length xs
+  room : mainPlace (least r) + nodeWidth ≤ length xs
   room = omega (arith, own, two-main small ln .runRoom)
 
   long : length recorded ≡ length xs
@@ -93,11 +94,12 @@ module _ {f : ℕ → Mark} {C d : ℕ} (small : C ≤ 65536) (l r : SlotMain) (
       }
 
 -- THE ROOT: the arm of the tree written at its word
-pub root-leaves : {f : ℕ → Mark} {C : ℕ} {xs zs : List ℕ} {a : Arm} {t : SlotMain} → C ≤ 65536 → length xs ≡ W C → AuxiliariesOf f t → TwoLeaves f C 0 xs a zs t
+pub root-leaves : {f : ℕ → Mark} {C : ℕ} {xs zs : List ℕ} {a : Arm} {t : SlotMain} → C ≤ 65536 → length xs ≡ W C → AuxiliariesOf f t
+    → TwoLeaves f C 0 xs a zs t
     → TwoLeavesAt f C 0 rootPlace xs (putArm zs rootPlace a) t
 root-leaves {C = C} {zs = zs} {a = a} {t = t} small ln of h =
-    let room : rootPlace + 4 ≤ length zs = omega (arith, two-main small (h .frame .long ∙ ln) .runRoom) in
-    let here : TwoFrame C 0 (λ s. ⊥) (λ s. ⊥) rootPlace 4 zs (putArm zs rootPlace a) = arm-twoFrame zs rootPlace a in
+    let room : rootPlace + armWidth ≤ length zs = omega (arith, two-main small (h .frame .long ∙ ln) .runRoom) in
+    let here : TwoFrame C 0 (λ s. ⊥) (λ s. ⊥) rootPlace armWidth zs (putArm zs rootPlace a) = arm-twoFrame zs rootPlace a in
     record {
       is = putArm-same zs rootPlace a room ∙ h .is;
       held = kept-two (λ s z. absurd z) (clear-spot (root-spot {P = λ s. ⊥})) here 0 t (λ s z. absurd z) (λ s z. absurd z) (λ s z. absurd z) of

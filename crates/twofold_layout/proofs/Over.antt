@@ -7,7 +7,7 @@ use native.Mathlib.Nat.{suc-mul, mul-le-mul}
 use Rattle.model.specs.Sizes.{D, W}
 use Rattle.model.specs.Tree.{node, least}
 use Rattle.model.specs.Sheet.{Mark, alongX}
-use Rattle.table.specs.Layout.{mainPlace, rootPlace, levelPlace, recordPlace}
+use Rattle.table.specs.Layout.{armWidth, mainPlace, rootPlace, levelPlace, recordPlace}
 use Rattle.nodes.specs.Arms.{Arm, arms, armAt, recordAt}
 use Rattle.nodes.specs.Holds.{armOf, times}
 use Rattle.nodes.proofs.Frames.{Region}
@@ -29,11 +29,11 @@ pub record TwoLeaves (f : ℕ → Mark) (C d : ℕ) (xs : List ℕ) (a : Arm) (y
 pub record TwoLeavesAt (f : ℕ → Mark) (C d at : ℕ) (xs ys : List ℕ) (t : SlotMain) : Type 0 where
   pub is : armAt ys at ≡ armOf alongX f t
   pub held : TwoFold f C d ys t
-  pub frame : TwoFrame C d (Names t) (λ s. 0 < times s t) at 4 xs ys
+  pub frame : TwoFrame C d (Names t) (λ s. 0 < times s t) at armWidth xs ys
 
 -- what a change anywhere in a table's tree leaves: all words but the records of the slots, the runs and the root's arm
 abbrev pub TableFrame : ℕ → List ℕ → List ℕ → Type 0
-TableFrame C xs ys = TwoFrame C 0 (λ s. s < C) (λ s. s < C) rootPlace 4 xs ys
+TableFrame C xs ys = TwoFrame C 0 (λ s. s < C) (λ s. s < C) rootPlace armWidth xs ys
 
 pub table-frame : {f : ℕ → Mark} {C : ℕ} {xs ys : List ℕ} {t : SlotMain} → TwoLeavesAt f C 0 rootPlace xs ys t → TableFrame C xs ys
 table-frame a = twoFrame-weaken (omega arith) (λ s k. a .held .main .within s (k .0)) (a .held .main .within) (a .frame)

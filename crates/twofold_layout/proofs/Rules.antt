@@ -36,7 +36,8 @@ times-pass p s e (q ∷ l) =
     (λ t. rw (t, ← eqb-true s q t, e) (omega (arith, times-pass p s e l)))
     (λ u. rw u (omega (arith, times-pass p s e l)))
 
-two-pass : (p : ℕ → Bool) (s q : ℕ) → p s ≡ true → p q ≡ true → eqb q s ≡ false → (l : List ℕ) → timesIn s l + timesIn q l ≤ countIf p l
+two-pass : (p : ℕ → Bool) (s q : ℕ) → p s ≡ true → p q ≡ true → eqb q s ≡ false → (l : List ℕ)
+    → timesIn s l + timesIn q l ≤ countIf p l
 two-pass p s q e g z [] = omega arith
 two-pass p s q e g z (a ∷ l) =
     by-cases (eqb s a)
@@ -147,7 +148,8 @@ module _ (f : ℕ → Mark) where
   pub auxiliary-build-of : (l : List ℕ) → 0 < length l → Distinct (slotSpace f sheet) l → AuxiliaryOf f l (slotAuxiliary f .build l)
   auxiliary-build-of l n d = represents-auxiliary l (slotAuxiliary f .build l) n (slotAuxiliary-laws .build l d)
 
-  pub rules-auxiliary-times : {l : List ℕ} {o : SlotAuxiliary} {u : Tree ℕ (List ℕ)} → AuxiliaryOf f l o → o ≡ some u → (q : ℕ) → times q u ≡ timesIn q l
+  pub rules-auxiliary-times : {l : List ℕ} {o : SlotAuxiliary} {u : Tree ℕ (List ℕ)} → AuxiliaryOf f l o → o ≡ some u → (q : ℕ)
+      → times q u ≡ timesIn q l
   rules-auxiliary-times a e q = ap (λ o. timesIn q (marksOf o)) (sym e ∙ a .is) ∙ a .bag (eqb q)
 
   -- and so for all nodes of a main tree

@@ -6,7 +6,7 @@ use mathlib.Core.List.{List}
 use native.Mathlib.Omega.{arith}
 use Rattle.model.specs.Tree.{leaf, node, least}
 use Rattle.model.specs.Sheet.{Mark, alongX, alongY}
-use Rattle.table.specs.Layout.{slotPlace, mainPlace, auxiliaryPlace, levelPlace, recordPlace}
+use Rattle.table.specs.Layout.{markWidth, recordWidth, nodeWidth, slotPlace, mainPlace, auxiliaryPlace, levelPlace, recordPlace}
 use Rattle.table.specs.Marks.{slotMark}
 use Rattle.nodes.specs.Arms.{armAt, recordAt}
 use Rattle.nodes.specs.Holds.{times}
@@ -59,9 +59,9 @@ module _ (f : ℕ → Mark) (C : ℕ) (xs ys : List ℕ) where
 
 -- and for a change that keeps the tree's words
 pub unchanged-two : {f : ℕ → Mark} {C : ℕ} {kept : ℕ → Type 0} {xs ys : List ℕ} → Unchanged kept xs ys → (d : ℕ) (t : SlotMain)
-    → ((s : ℕ) → s < C → Names t s → Keeps kept (mainPlace s) (mainPlace s + 12))
-    → ((s : ℕ) → Carried f C t s → Keeps kept (slotPlace s) (slotPlace s + 3))
-    → ((e s : ℕ) → d ≤ e → Carried f C t s → Keeps kept (recordPlace (levelPlace C e) s) (recordPlace (levelPlace C e) s + 8))
+    → ((s : ℕ) → s < C → Names t s → Keeps kept (mainPlace s) (mainPlace s + nodeWidth))
+    → ((s : ℕ) → Carried f C t s → Keeps kept (slotPlace s) (slotPlace s + markWidth))
+    → ((e s : ℕ) → d ≤ e → Carried f C t s → Keeps kept (recordPlace (levelPlace C e) s) (recordPlace (levelPlace C e) s + recordWidth))
     → TwoFold f C d xs t → TwoFold f C d ys t
 unchanged-two {f = f} {C = C} {xs = xs} {ys = ys} a d t nodes marks levels h =
     two-same f C xs ys d t

@@ -7,13 +7,14 @@ use mathlib.Core.List.{List, [], _∷_, map}
 use mathlib.Core.Option.{Option, none, some, Option·map}
 use native.Mathlib.Omega.{arith}
 use lib.ListN.{length}
-use Rattle.model.specs.Lists.{countIf, filterBy}
+use Rattle.model.specs.Lists.{filterBy}
+use Rattle.model.specs.Totals.{Operation, totalIf}
 use Rattle.model.specs.Tree.{weight, marks, marksOf}
 use Rattle.model.specs.Fold.{insertRebuilt, strikeRebuilt}
 use Rattle.model.specs.Sizes.{D}
 use Rattle.model.specs.Sheet.{Mark, Box, holds, sheet, alongX, auxiliary, main}
-use Rattle.model.specs.Slots.{slotSpace, slotAxis, mapTree, mapListed}
-use Rattle.model.specs.Laws.{SameBag, All, nil, cons, RegisterLaws}
+use Rattle.model.specs.Slots.{slotSpace, slotAxis, mapTree, mapFound, mapListed}
+use Rattle.model.specs.Laws.{SameBag, OperationLaws, All, nil, cons, RegisterLaws}
 use Rattle.model.proofs.Tree.{weight-marks}
 use Rattle.model.proofs.Slots.{map-marks, auxiliary-stands, main-stands, insertRebuilt-stands, strikeRebuilt-stands}
 use Rattle.model.proofs.Fold.{foldBound, fold-laws, fold-represents}
@@ -43,7 +44,7 @@ module _ (f : ℕ → Mark) where
 
   -- searches
   module _ (b : Box) (o : Option SlotMain) where
-    pub stands-count : slotMain f .count b o ≡ main .count b (marksMain f o)
+    pub stands-count : mapFound f (slotMain f .count b o) ≡ main .count b (marksMain f o)
     stands-count = main-stands f .count b o
 
     pub stands-list : mapListed f (slotMain f .list b o) ≡ main .list b (marksMain f o)
@@ -67,8 +68,8 @@ module _ (f : ℕ → Mark) where
   all-unsettled b (s ∷ l) = cons refl (all-unsettled b l)
 
   module _ (b : Box) (t : SlotMain) (r : ByRules f t) where
-    pub rules-found : slotMain f .count b (some t) .found ≡ countIf (λ s. holds b (f s)) (marks t)
-    rules-found = slotMain-laws .count b (some t) (marks t) (rules-represents t r) (all-unsettled b (marks t))
+    pub rules-found : (P : Operation ℕ) → OperationLaws P → slotMain f .count b (some t) .found P ≡ totalIf P (λ s. holds b (f s)) (marks t)
+    rules-found P L = slotMain-laws .count P L b (some t) (marks t) (rules-represents t r) (all-unsettled b (marks t))
 
     pub rules-visits : slotMain f .count b (some t) .visits ≤ (4 * D (weight t) + 1) * (2 * D (weight t) + 1)
     rules-visits = rw (weight-marks t) (omega (arith, slotMain-laws .visits b (some t) (marks t) (rules-represents t r)))

@@ -1,6 +1,7 @@
 -- A sound table: "The check call passes a table exactly when 3 does not apply and its words hold a tree by the rules above, word 2 is the number of its
 -- marks, and every other record of docs/'s layout is free, each once" (document 01, "Where each call may stop"). Here the words are the table's own, W(C)
--- of them. Assumes nothing.
+-- of them. "In a sound table every grade is 1 to 100, a mark's the same wherever it stands, and stored sums and worsts are right" (R-1): a mark stands in
+-- its slot alone, and `HoldsTree` asks that every arm has the figure of the grades beneath it. Assumes nothing.
 use Prim.Native.Nat.{ℕ, _<_}
 use mathlib.Core.Path.{_≡_}
 use mathlib.Core.Bool.{false}
@@ -11,7 +12,7 @@ use lib.ListN.{length, getD}
 use Rattle.model.specs.Lists.{indicator}
 use Rattle.model.specs.Tree.{marksOf}
 use Rattle.model.specs.Sizes.{W, capacityOutside}
-use Rattle.model.specs.Sheet.{Main, markOutside, alongX}
+use Rattle.model.specs.Sheet.{Main, markOutside, gradeOutside, alongX}
 use Rattle.model.specs.Laws.{All}
 use Rattle.table.specs.Layout.{openPlace, rootPlace, usedPlace, placePlace}
 use Rattle.table.specs.Header.{capacityOf, liveOf}
@@ -54,6 +55,7 @@ module _ (xs : List ℕ) where
     pub holds : HoldsTree slots
     pub rules : TreeByRules slots
     pub coordinates : All (λ m. markOutside m ≡ false) (marksOf T)
+    pub grades : All (λ m. gradeOutside m ≡ false) (marksOf T)
     pub live : liveOf xs ≡ length (marksOf T)
     pub free : EachOnce slots
 

@@ -15,7 +15,7 @@ use Rattle.model.specs.Lists.{indicator}
 use Rattle.model.specs.Sizes.{D, W, capacityOutside}
 use Rattle.model.specs.Laws.{nil}
 use Rattle.model.proofs.Logic.{by-cases}
-use Rattle.table.specs.Layout.{openPlace, capacityPlace, livePlace, rootPlace, usedPlace, placePlace, runPlace}
+use Rattle.table.specs.Layout.{armWidth, openPlace, capacityPlace, livePlace, rootPlace, usedPlace, placePlace, runPlace}
 use Rattle.nodes.specs.Arms.{noArm, armAt, putArm}
 use Rattle.nodes.proofs.Frames.{putArm-same}
 use Rattle.nodes.proofs.Unchanged.{Off, Unchanged, unchanged-refl, unchanged-trans, unchanged-weaken, unchanged-arm, set-unchanged, putArm-unchanged}
@@ -62,10 +62,10 @@ module _ (C : ℕ) (xs : List ℕ) where
   empty-length = ap length empty-is ∙ length-set rooted openPlace 1 ∙ rooted-length
 
   module _ (room : 64 ≤ length xs) where
-    root-room : rootPlace + 4 ≤ length sized
+    root-room : rootPlace + armWidth ≤ length sized
     root-room = omega (arith, sized-length)
 
-    empty-word : (i : ℕ) → Off rootPlace (rootPlace + 4) i → (i ≡ openPlace → ⊥) → getD (empty♯ C xs) i 0 ≡ getD sized i 0
+    empty-word : (i : ℕ) → Off rootPlace (rootPlace + armWidth) i → (i ≡ openPlace → ⊥) → getD (empty♯ C xs) i 0 ≡ getD sized i 0
     empty-word i h ne =
         ap (λ ws. getD ws i 0) empty-is ∙ getD-set-other rooted openPlace i 1 0 ne ∙ putArm-unchanged sized rootPlace noArm .same i h
 
@@ -78,13 +78,13 @@ module _ (C : ℕ) (xs : List ℕ) where
         ∙ getD-set-same listed capacityPlace C 0 (omega (arith, freeSlots-unchanged C C xs (omega arith) .long))
 
     -- the words after the root's arm are those of the lists
-    empty-past : (i : ℕ) → 7 ≤ i → getD (empty♯ C xs) i 0 ≡ getD listed i 0
+    empty-past : (i : ℕ) → rootPlace + armWidth ≤ i → getD (empty♯ C xs) i 0 ≡ getD listed i 0
     empty-past i h =
         empty-word i (omega arith) (omega arith) ∙ getD-set-other (set listed capacityPlace C) livePlace i 0 0 (omega arith)
         ∙ getD-set-other listed capacityPlace i C 0 (omega arith)
 
-    -- it writes the header's seven words and the lists of slots, and nothing else
-    pub empty-other : (i : ℕ) → 7 ≤ i → (i < usedPlace C 0) ⊎ (runPlace C 0 ≤ i) → getD (empty♯ C xs) i 0 ≡ getD xs i 0
+    -- it writes the header's words and the lists of slots, and nothing else
+    pub empty-other : (i : ℕ) → rootPlace + armWidth ≤ i → (i < usedPlace C 0) ⊎ (runPlace C 0 ≤ i) → getD (empty♯ C xs) i 0 ≡ getD xs i 0
     empty-other i l h =
         empty-past i (omega arith) ∙ freeSlots-unchanged C C xs (omega arith) .same i (off h)
       where
@@ -114,7 +114,8 @@ own-used C n i xs l h room given =
     (λ t. inr (let e = eqb-true i n t in rw e (past n l ∙ getD-set-same xs (usedPlace C n) n 0 (omega arith))))
     (λ f. other (eqb-false i n f) given)
   where
-    past : (i : ℕ) → i < C → getD (set (set xs (usedPlace C n) n) (placePlace C n) n) (usedPlace C i) 0 ≡ getD (set xs (usedPlace C n) n) (usedPlace C i) 0
+    past : (i : ℕ) → i < C
+        → getD (set (set xs (usedPlace C n) n) (placePlace C n) n) (usedPlace C i) 0 ≡ getD (set xs (usedPlace C n) n) (usedPlace C i) 0
     past i h = getD-set-other (set xs (usedPlace C n) n) (placePlace C n) (usedPlace C i) n 0 (omega arith)
 
     other : (i ≡ n → ⊥) → (i < suc n) ⊎ (getD xs (usedPlace C i) 0 ≡ i)
@@ -156,9 +157,9 @@ freeSlots-place C (suc n) s xs l h room given =
 
 -- THE EMPTY TABLE
 
-W-room : (C : ℕ) → 64 + 32 * C ≤ W C
+W-room : (C : ℕ) → 64 + 40 * C ≤ W C
 unfolding W
-W-room C = omega (arith, mul-add C 32 (16 * D C), mul-comm C 32)
+W-room C = omega (arith, mul-add C 40 (24 * D C), mul-comm C 40)
 
 module _ (C : ℕ) (xs : List ℕ) (room : placePlace C C ≤ length xs) where
   empty-used : (i : ℕ) → i < C → getD (empty♯ C xs) (usedPlace C i) 0 ≡ i
@@ -189,6 +190,7 @@ empty-holding C xs inside long =
       holds = ap (λ a. a .weight) (empty-root C xs (omega arith));
       rules = tt;
       coordinates = nil;
+      grades = nil;
       live = empty-live C xs (omega arith);
       free = empty-once C xs room;
     }

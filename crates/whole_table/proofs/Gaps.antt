@@ -9,14 +9,14 @@ use lib.ListN.{length, getD}
 use Rattle.model.specs.Lists.{countIf}
 use Rattle.model.specs.Sizes.{D, W}
 use Rattle.model.specs.Tree.{marksOf}
-use Rattle.model.specs.Sheet.{Mark, Main, markOutside, same}
+use Rattle.model.specs.Sheet.{Mark, Main, markOutside, gradeOutside, same}
 use Rattle.model.proofs.Logic.{by-order}
-use Rattle.table.specs.Layout.{livePlace, slotPlace, rootPlace}
+use Rattle.table.specs.Layout.{armWidth, markWidth, livePlace, slotPlace, rootPlace}
 use Rattle.nodes.proofs.Unchanged.{Off}
 use Rattle.nodes.proofs.Levels.{W-words}
 use Rattle.twofold_layout.specs.Sound.{Holding}
 use Rattle.table.specs.Header.{capacityOf}
-use Rattle.twofold_layout.specs.Gaps.{Unused, inHeader, inSlot, afterRuns, inLevel}
+use Rattle.twofold_layout.specs.Gaps.{Unused, inHeader, afterRuns, inLevel}
 use Rattle.twofold_layout.proofs.Frames.{OffTwo}
 use Rattle.primary_search.specs.Find.{find♯}
 use Rattle.whole_table.specs.Insert.{tableInsert♯}
@@ -28,23 +28,20 @@ use Rattle.whole_table.proofs.Striking.{strike-frame}
 -- AN UNUSED WORD IS APART FROM
 module _ {C i : ℕ} where
   -- the number of live marks, and the marks
-  off-marks : Unused C i → (i ≡ livePlace → ⊥) × ((q : ℕ) → q < C → Off (slotPlace q) (slotPlace q + 3) i)
+  off-marks : Unused C i → (i ≡ livePlace → ⊥) × ((q : ℕ) → q < C → Off (slotPlace q) (slotPlace q + markWidth) i)
   off-marks (inHeader l h) = omega arith
-  off-marks (inSlot s k is) = omega arith
   off-marks (afterRuns l h) = omega arith
   off-marks (inLevel d k l h) = omega arith
 
   -- that number, and the lists of slots
   off-lists : Unused C i → OffLists C i
   off-lists (inHeader l h) = omega arith
-  off-lists (inSlot s k is) = omega arith
   off-lists (afterRuns l h) = omega arith
   off-lists (inLevel d k l h) = omega arith
 
   -- the main records, the arms of their auxiliary trees, the records of every level, the runs and the root's arm
-  off-tree : Unused C i → OffTwo C 0 (λ s. s < C) (λ s. s < C) rootPlace 4 i
+  off-tree : Unused C i → OffTwo C 0 (λ s. s < C) (λ s. s < C) rootPlace armWidth i
   off-tree (inHeader l h) = omega arith
-  off-tree (inSlot s k is) = omega arith
   off-tree (afterRuns l h) = omega arith
   off-tree (inLevel d k l h) = record {
     tree = record {
@@ -62,20 +59,19 @@ module _ {C i : ℕ} where
   -- and it is one of the table's own words
   pub unused-within : Unused C i → i < W C
   unused-within (inHeader l h) = omega (arith, W-words C)
-  unused-within (inSlot s k is) = omega (arith, W-words C)
   unused-within (afterRuns l h) = omega (arith, W-words C)
   unused-within (inLevel d k l h) = omega (arith, W-words C, mul-le-mul-right {m = suc d} {n = D C} C k)
 
 -- THE OPERATIONS, on a sound table
 
 module _ (xs : List ℕ) (T : Main) (h : Holding xs T) (m : Mark) where
-  pub insert-unused : markOutside m ≡ false → countIf (same m) (marksOf T) ≡ 0 → length (marksOf T) < capacityOf xs
+  pub insert-unused : markOutside m ≡ false → gradeOutside m ≡ false → countIf (same m) (marksOf T) ≡ 0 → length (marksOf T) < capacityOf xs
       → (i : ℕ) → Unused (capacityOf xs) i → getD (tableInsert♯ m xs .words) i 0 ≡ getD xs i 0
-  insert-unused within new room i u =
-      insert-frame xs T h m within new room .same i (off-tree u) ∙ insert-entered xs T h m within new room .same i (off-marks u)
+  insert-unused within graded new room i u =
+      insert-frame xs T h m within graded new room .same i (off-tree u) ∙ insert-entered xs T h m within graded new room .same i (off-marks u)
 
   pub strike-unused : 0 < countIf (same m) (marksOf T)
-      → (i : ℕ) → Unused (capacityOf xs) i → getD (tableStrike♯ m (find♯ xs m) xs .words) i 0 ≡ getD xs i 0
+      → (i : ℕ) → Unused (capacityOf xs) i → getD (tableStrike♯ (find♯ xs m) xs .words) i 0 ≡ getD xs i 0
   strike-unused has i u =
       let a = strike-frame xs T h m has in
       a .2 .same i (off-lists u) ∙ a .1 .same i (off-tree u)

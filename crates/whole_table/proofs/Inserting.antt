@@ -14,13 +14,13 @@ use Rattle.model.specs.Lists.{indicator, countIf, insertSorted}
 use Rattle.model.specs.Sizes.{W}
 use Rattle.model.specs.Tree.{leaf, weight, marks, marksOf, insertLeaf, rebalance}
 use Rattle.model.specs.Fold.{insertRebuilt}
-use Rattle.model.specs.Sheet.{Mark, markOutside, same, belowX, sheet, alongX, auxiliary, Main, main}
+use Rattle.model.specs.Sheet.{Mark, markOutside, gradeOutside, same, belowX, sheet, alongX, auxiliary, Main, main}
 use Rattle.model.specs.Slots.{slotSpace, slotAxis}
 use Rattle.model.specs.Laws.{nil, sorted[], sorted∷}
 use Rattle.model.proofs.Lists.{all-insertSorted, insertSorted-countIf, insertSorted-length}
 use Rattle.model.proofs.Tree.{weight-marks, rebalance-marks, insert-marks}
 use Rattle.model.proofs.TwoFold.{main-insert-marks}
-use Rattle.table.specs.Layout.{openPlace, capacityPlace, livePlace, slotPlace, rootPlace}
+use Rattle.table.specs.Layout.{markWidth, armWidth, openPlace, capacityPlace, livePlace, slotPlace, rootPlace}
 use Rattle.table.specs.Limits.{damaged}
 use Rattle.table.specs.Marks.{markAt, slotMark, putMark}
 use Rattle.nodes.specs.Arms.{armAt}
@@ -52,15 +52,15 @@ use Rattle.whole_table.proofs.Slots.{SameLists, free-slot, each-once-in
 
 -- THE MARK ENTERED
 
-module _ (m : Mark) (s live : ℕ) (xs : List ℕ) (room : slotPlace s + 3 ≤ length xs) where
+module _ (m : Mark) (s live : ℕ) (xs : List ℕ) (room : slotPlace s + markWidth ≤ length xs) where
   abbrev written : List ℕ
-  written = m .x ∷ m .y ∷ m .tag ∷ []
+  written = m .x ∷ m .y ∷ m .tag ∷ m .grade ∷ []
 
   entered-sets : entered m s live xs ≡ set (sets xs (slotPlace s) written) livePlace (sum live 1)
   unfolding entered putMark
-  entered-sets = rw (le-leb (slotPlace s + 3) (length xs) room)
+  entered-sets = rw (le-leb (slotPlace s + markWidth) (length xs) room)
 
-  entered-unchanged : Unchanged (λ i. (i ≡ livePlace → ⊥) × Off (slotPlace s) (slotPlace s + 3) i) xs (entered m s live xs)
+  entered-unchanged : Unchanged (λ i. (i ≡ livePlace → ⊥) × Off (slotPlace s) (slotPlace s + markWidth) i) xs (entered m s live xs)
   entered-unchanged =
       rw entered-sets
       (unchanged-trans (unchanged-weaken (λ i o. o .1) (sets-unchanged written xs (slotPlace s)))
@@ -73,7 +73,7 @@ module _ (m : Mark) (s live : ℕ) (xs : List ℕ) (room : slotPlace s + 3 ≤ l
       (getD-set-same (sets xs (slotPlace s) written) livePlace ((live + 1) % 4294967296) 0 (omega (arith, length-sets xs (slotPlace s) written))
       ∙ omega arith)
 
-  entered-word : (j : ℕ) → j < 3 → getD (entered m s live xs) (slotPlace s + j) 0 ≡ getD written j 0
+  entered-word : (j : ℕ) → j < markWidth → getD (entered m s live xs) (slotPlace s + j) 0 ≡ getD written j 0
   entered-word j h =
       rw entered-sets
       (getD-set-other (sets xs (slotPlace s) written) livePlace (slotPlace s + j) (sum live 1) 0 (omega arith)
@@ -85,7 +85,14 @@ module _ (m : Mark) (s live : ℕ) (xs : List ℕ) (room : slotPlace s + 3 ≤ l
       let e : slotPlace s + 0 ≡ slotPlace s = omega arith in
       let w : getD (entered m s live xs) (slotPlace s) 0 ≡ m .x =
       ap (λ i. getD (entered m s live xs) i 0) (sym e) ∙ entered-word 0 (omega arith) in
-      rw (entered-unchanged .long, le-leb (slotPlace s + 3) (length xs) room, w, entered-word 1 (omega arith), entered-word 2 (omega arith))
+      rw (
+        entered-unchanged .long,
+        le-leb (slotPlace s + markWidth) (length xs) room,
+        w,
+        entered-word 1 (omega arith),
+        entered-word 2 (omega arith),
+        entered-word 3 (omega arith),
+      )
 
   entered-mark : (q : ℕ) → (q ≡ s → ⊥) → slotMark (entered m s live xs) q ≡ slotMark xs q
   entered-mark q n = unchanged-mark entered-unchanged q (omega arith)
@@ -104,7 +111,7 @@ module _ (m : Mark) (s live : ℕ) (xs : List ℕ) (room : slotPlace s + 3 ≤ l
   entered-same l z q k = sym (entered-mark q (λ e. omega (arith, k, ap (λ q. timesIn q l) e)))
 
 -- the words of the root's arm are not of a mark, nor before the capacity's end
-pub root-clear : (C : ℕ) → Clear C rootPlace 4
+pub root-clear : (C : ℕ) → Clear C rootPlace armWidth
 root-clear C = clear-spot {P = λ q. ⊥} root-spot
 
 -- THE TREE
@@ -131,14 +138,15 @@ record Put (g : ℕ → Mark) (C s : ℕ) (ws : List ℕ) (p : After ℕ) (o : O
   fine : p .out ≡ damaged → ⊥
   slots : (q : ℕ) → times q tree ≡ timesIn q (marksOf o) + indicator (eqb q s)
 
-module _ (m : Mark) (s live : ℕ) (xs : List ℕ) (C : ℕ) (capacity : capacityOf xs ≡ C) (small : C ≤ 65536) (long : length xs ≡ W C) (low : s < C) where
+module _ (m : Mark) (s live : ℕ) (xs : List ℕ) (C : ℕ) (capacity : capacityOf xs ≡ C) (small : C ≤ 65536) (long : length xs ≡ W C)
+    (low : s < C) where
   abbrev ws : List ℕ
   ws = entered m s live xs
 
   abbrev g : ℕ → Mark
   g = slotMark (entered m s live xs)
 
-  room-mark : slotPlace s + 3 ≤ length xs
+  room-mark : slotPlace s + markWidth ≤ length xs
   room-mark = omega (arith, table-main C small .runRoom)
 
   put-of : (o : Option SlotMain) → HoldsTree xs o → TreeByRules xs o → timesIn s (marksOf o) ≡ 0
@@ -180,8 +188,8 @@ marks-by xs g (some t) on r = sym (marksMain-marks (slotMark xs) g t on r)
 
 -- THE TABLE
 
-module _ (xs : List ℕ) (T : Main) (h : Holding xs T) (m : Mark) (within : markOutside m ≡ false) (new : countIf (same m) (marksOf T) ≡ 0)
-    (room : length (marksOf T) < capacityOf xs) where
+module _ (xs : List ℕ) (T : Main) (h : Holding xs T) (m : Mark) (within : markOutside m ≡ false) (graded : gradeOutside m ≡ false)
+    (new : countIf (same m) (marksOf T) ≡ 0) (room : length (marksOf T) < capacityOf xs) where
   abbrev C : ℕ
   C = capacityOf xs
 
@@ -198,7 +206,7 @@ module _ (xs : List ℕ) (T : Main) (h : Holding xs T) (m : Mark) (within : mark
   free : (slot < C) × (timesIn slot (marksOf (h .slots)) ≡ 0)
   free = free-slot (h .free) (omega (arith, h .live))
 
-  enough : slotPlace slot + 3 ≤ length xs
+  enough : slotPlace slot + markWidth ≤ length xs
   enough = room-mark m slot (liveOf xs) xs C refl (holding-small xs T h) (h .long) (free .0)
 
   own : f slot ≡ m
@@ -237,7 +245,7 @@ module _ (xs : List ℕ) (T : Main) (h : Holding xs T) (m : Mark) (within : mark
   names-low : (q : ℕ) → Names (put .tree) q → q < C
   names-low q k = put .leaves .held .main .within q (k .0)
 
-  header : (i : ℕ) → i < 64 → Off rootPlace (rootPlace + 4) i → (i ≡ livePlace → ⊥) → getD (p .words) i 0 ≡ getD xs i 0
+  header : (i : ℕ) → i < 64 → Off rootPlace (rootPlace + armWidth) i → (i ≡ livePlace → ⊥) → getD (p .words) i 0 ≡ getD xs i 0
   header i low out ne =
       kept-header names-low (root-clear C) (put .leaves .frame) i low out ∙ entered-unchanged m slot (liveOf xs) xs enough .same i (ne, omega arith)
 
@@ -269,6 +277,7 @@ module _ (xs : List ℕ) (T : Main) (h : Holding xs T) (m : Mark) (within : mark
         holds = settled-holds (put .tree) (a .is) (a .held) (put .rules) e;
         rules = settled-rules (put .tree) (a .is) (a .held) (put .rules);
         coordinates = rw put-marks (all-insertSorted belowX m within (h .coordinates));
+        grades = rw put-marks (all-insertSorted belowX m graded (h .grades));
         live = put-live ∙ ap (λ k. k + 1) (h .live) ∙ sym (ap length put-marks ∙ insertSorted-length belowX m (marksOf T));
         free = each-once-insert put-lists put-live (h .free) (omega (arith, h .live)) (put .slots);
       }
@@ -289,5 +298,5 @@ module _ (xs : List ℕ) (T : Main) (h : Holding xs T) (m : Mark) (within : mark
   pub insert-frame : TableFrame C vs (tableInsert♯ m xs .words)
   insert-frame = rw goes (table-frame (put .leaves))
 
-  pub insert-entered : Unchanged (λ i. (i ≡ livePlace → ⊥) × ((q : ℕ) → q < C → Off (slotPlace q) (slotPlace q + 3) i)) xs vs
+  pub insert-entered : Unchanged (λ i. (i ≡ livePlace → ⊥) × ((q : ℕ) → q < C → Off (slotPlace q) (slotPlace q + markWidth) i)) xs vs
   insert-entered = unchanged-weaken (λ i o. (o .0, o .1 slot (free .0))) (entered-unchanged m slot (liveOf xs) xs enough)

@@ -2,31 +2,41 @@
 -- the visits and of the depth. Assumes nothing.
 use Prim.Native.Nat.{ℕ, _+_, _*_, _≤_, _<_}
 use mathlib.Core.Path.{_≡_, refl, sym, ap, subst, _∙_}
-use mathlib.Core.Bool.{Bool, false}
+use mathlib.Core.Bool.{Bool, true, false}
 use mathlib.Core.List.{List, [], _∷_, map}
 use mathlib.Core.Option.{Option, none, some}
 use native.Mathlib.Omega.{arith}
 use native.Mathlib.Nat.{mul-le-mul}
 use lib.ListN.{length, length-map}
 use lib.Seq.{sets}
-use borrow.Author.Tests.{eq-eqb}
+use lib.Dec.{ltb}
+use borrow.Author.Tests.{eq-eqb, ltb-false}
 use Rattle.model.specs.Lists.{countIf, filterBy, sort}
+use Rattle.model.specs.Totals.{totalIf, counting}
+use Rattle.model.specs.Register.{Found}
 use Rattle.model.specs.Sizes.{D, W}
 use Rattle.model.specs.Tree.{weight, depth, marks, marksOf}
-use Rattle.model.specs.Sheet.{Mark, Box, boxCrossed, same, holds, belowX, Main, main}
-use Rattle.model.specs.Laws.{SameBag}
-use Rattle.model.proofs.Logic.{by-cases}
-use Rattle.model.proofs.Lists.{countIf-length, sameBag-length, sort-countIf, filterBy-length}
+use Rattle.model.specs.Sheet.{Mark, Box, gradeOutside, summing, worst, boxCrossed, same, holds, belowX, sheet, Main, main}
+use Rattle.model.specs.Slots.{mapFound}
+use Rattle.model.specs.Laws.{SameBag, Distinct, All}
+use Rattle.model.proofs.Logic.{by-cases, or-neither}
+use Rattle.model.proofs.Totals.{greatest-most}
+use Rattle.model.proofs.Lists.{all-map, all-unmapped, countIf-length, sameBag-length, sort-countIf, filterBy-length}
 use Rattle.model.proofs.Sizes.{D-rises, capacity-some, capacity-small}
 use Rattle.model.proofs.Depth.{balanced-depth}
-use Rattle.model.proofs.Orders.{sheet-sameness, same-sound, alongX-laws}
+use Rattle.model.proofs.Orders.{sheet-sameness, equal, equal-self, equal-sound, alongX-laws}
 use Rattle.model.proofs.Sorted.{filterBy-sorted, sort-sorted, sorted-distinct, sorted-unique}
 use Rattle.model.proofs.Tree.{weight-marks}
-use Rattle.model.proofs.TwoFold.{Agrees, open-agrees, count-agrees, count-visits, list-agrees, list-visits}
+use Rattle.model.proofs.TwoFold.{Agrees, open-agrees, total-agrees, count-agrees, count-visits, list-agrees, list-visits}
 use Rattle.table.specs.Marks.{slotMark, markWords}
 use Rattle.nodes.specs.Holds.{timesIn}
 use Rattle.sizes.specs.Sizes.{visitsWithin}
+use Rattle.table.specs.Layout.{listPlace}
 use Rattle.table.specs.Tally.{pack}
+use Rattle.table.specs.Grades.{grading, sumOf, worstOf}
+use Rattle.table.specs.Figures.{packed, foundIn, visitsIn, gradesIn}
+use Rattle.table.proofs.Packing.{grading-laws, passing-parts, passing-small, parts-sum, parts-worst, packed-found, packed-visits, packed-grades}
+use Rattle.nodes.specs.Count.{figures}
 use Rattle.table.specs.Limits.{mostVisits, absent}
 use Rattle.table.specs.After.{after}
 use Rattle.nodes.proofs.Levels.{most-levels, held-shallow}
@@ -36,7 +46,7 @@ use Rattle.twofold_layout.proofs.Agrees.{countIf-map, sameBag-map, rules-agrees
 use Rattle.primary_search.specs.Find.{find♯}
 use Rattle.primary_search.specs.Count.{mainCount♯}
 use Rattle.primary_search.specs.List.{mainList♯}
-use Rattle.primary_search.proofs.Finding.{find-none, find-holds, find-absent}
+use Rattle.primary_search.proofs.Finding.{find-alike, find-none, find-holds, find-absent}
 use Rattle.primary_search.proofs.Counting.{count-none, count-main-holds}
 use Rattle.primary_search.proofs.Listing.{mainMet, mainMet-listed, list-none, list-main-holds}
 use Rattle.twofold_layout.specs.Sound.{HoldsTree, TreeByRules, Holding}
@@ -44,11 +54,11 @@ use Rattle.table.specs.Header.{capacityOf}
 use Rattle.twofold_layout.proofs.Sound.{live-slots, live-within}
 
 -- a slot of a list that has a mark which the list's slots have
-slot-of : (f : ℕ → Mark) (m : Mark) (l : List ℕ) → 0 < countIf (same m) (map f l) → (s : ℕ) × (0 < timesIn s l) × (m ≡ f s)
+slot-of : (f : ℕ → Mark) (m : Mark) (l : List ℕ) → 0 < countIf (same m) (map f l) → (s : ℕ) × (0 < timesIn s l) × (same m (f s) ≡ true)
 slot-of f m [] h = absurd (omega arith)
 slot-of f m (q ∷ l) h =
     by-cases (same m (f q))
-    (λ t. (q, rw (eq-eqb q q refl) (omega arith), same-sound m (f q) t))
+    (λ t. (q, rw (eq-eqb q q refl) (omega arith), t))
     (λ t.
     let z = (rw t at h) in
     let a = slot-of f m l (omega arith) in
@@ -82,12 +92,17 @@ module _ (xs : List ℕ) where
       let g = k .1 .main in
       find-absent (slotMark xs) (capacityOf xs) xs t (k .0) refl g (omega (arith, held-shallow g (r .balanced) small)) m n
 
-  count-of : (o : Option SlotMain) → HoldsTree xs o → TreeByRules xs o → capacityOf xs ≤ 65536 → W (capacityOf xs) ≤ length xs
+  -- every grade of the tree's marks is at most 100
+  GradedOf : Option SlotMain → Type 0
+  GradedOf o = All (λ s. slotMark xs s .grade ≤ 100) (marksOf o)
+
+  count-of : (o : Option SlotMain) → HoldsTree xs o → TreeByRules xs o → GradedOf o → capacityOf xs ≤ 65536 → W (capacityOf xs) ≤ length xs
       → (b : Box) → boxCrossed b ≡ false
       → slotMain (slotMark xs) .count b o .visits ≤ mostVisits
-      → mainCount♯ xs b ≡ pack (slotMain (slotMark xs) .count b o .found) (slotMain (slotMark xs) .count b o .visits)
-  count-of none k r small long b fine n = count-none xs b k
-  count-of (some t) k r small long b fine n = count-main-holds (slotMark xs) (capacityOf xs) xs t (k .0) (k .1) r small long refl b fine n
+      → mainCount♯ xs b ≡ figures (slotMark xs) (slotMain (slotMark xs) .count b o)
+  unfolding GradedOf packed
+  count-of none k r g small long b fine n = count-none xs b k
+  count-of (some t) k r g small long b fine n = count-main-holds (slotMark xs) (capacityOf xs) xs t (k .0) (k .1) r g small long refl b fine n
 
   -- the slots that a listing meets
   metOf : Box → Option SlotMain → List ℕ
@@ -101,7 +116,8 @@ module _ (xs : List ℕ) where
 
   list-of : (o : Option SlotMain) → HoldsTree xs o → TreeByRules xs o → capacityOf xs ≤ 65536 → W (capacityOf xs) ≤ length xs
       → (b : Box) (most : ℕ) → most < 2147483648
-      → slotMain (slotMark xs) .list b o .visits ≤ most → (ys : List ℕ) → 3 * length (metOf b o) ≤ length ys → length (metOf b o) ≤ 65536
+      → slotMain (slotMark xs) .list b o .visits ≤ most → (ys : List ℕ) → listPlace (length (metOf b o)) ≤ length ys
+      → length (metOf b o) ≤ 65536
       → mainList♯ xs b most ys
       ≡ after (pack (length (metOf b o)) (slotMain (slotMark xs) .list b o .visits)) (sets ys 0 (markWords (map (slotMark xs) (metOf b o))))
   unfolding metOf
@@ -115,6 +131,7 @@ pub record Lists (xs : List ℕ) (T : Main) (b : Box) (most : ℕ) (ys : List �
   pub is : mainList♯ xs b most ys ≡ after (pack (length met) (main .list b T .visits)) (sets ys 0 (markWords met))
   pub bag : SameBag met (main .list b T .marks)
   pub many : length met ≡ countIf (holds b) (marksOf T)
+  pub once : Distinct sheet met
   pub sorts : sort belowX met ≡ filterBy (holds b) (marksOf T)
 
 module _ (xs : List ℕ) (T : Main) (h : Holding xs T) where
@@ -140,6 +157,15 @@ module _ (xs : List ℕ) (T : Main) (h : Holding xs T) where
   pub holding-within : length (marksOf T) ≤ capacityOf xs
   holding-within = omega (arith, h .live, live-within h)
 
+  -- every grade is at most 100
+  holding-graded : All (λ m. m .grade ≤ 100) (marksOf T)
+  unfolding gradeOutside
+  holding-graded = all-map (λ m e. ltb-false 100 (m .grade) (or-neither (ltb (m .grade) 1) (ltb 100 (m .grade)) e .1)) (h .grades)
+
+  graded-slots : GradedOf xs (h .slots)
+  unfolding GradedOf
+  graded-slots = all-unmapped (slotMark xs) (marksOf (h .slots)) (subst (All (λ m. m .grade ≤ 100)) holding-marks holding-graded)
+
   -- the depth
   pub holding-levels : D (length (marksOf T)) ≤ D (capacityOf xs)
   holding-levels = D-rises (length (marksOf T)) (capacityOf xs) holding-within
@@ -152,12 +178,12 @@ module _ (xs : List ℕ) (T : Main) (h : Holding xs T) where
 
   -- the finding
   pub find-sound : (m : Mark) → 0 < countIf (same m) (marksOf T)
-      → (find♯ xs m < capacityOf xs) × (slotMark xs (find♯ xs m) ≡ m) × (timesIn (find♯ xs m) (marksOf (h .slots)) ≡ 1)
+      → (find♯ xs m < capacityOf xs) × (same m (slotMark xs (find♯ xs m)) ≡ true) × (timesIn (find♯ xs m) (marksOf (h .slots)) ≡ 1)
   find-sound m n =
       let a = slot-of (slotMark xs) m (marksOf (h .slots)) (subst (λ l. 0 < countIf (same m) l) holding-marks n) in
       let k = find-of xs (h .slots) (h .holds) (h .rules) holding-small (a .0) (a .1) in
-      let e : find♯ xs m ≡ a .0 = ap (find♯ xs) (a .2) ∙ k .0 in
-      rw e (k .1, sym (a .2), k .2)
+      let e : find♯ xs m ≡ a .0 = find-alike m (slotMark xs (a .0)) (a .2) xs ∙ k .0 in
+      rw e (k .1, a .2, k .2)
 
   pub find-missing : (m : Mark) → countIf (same m) (marksOf T) ≡ 0 → find♯ xs m ≡ absent
   find-missing m n =
@@ -166,7 +192,7 @@ module _ (xs : List ℕ) (T : Main) (h : Holding xs T) where
 
   module _ (b : Box) where
     -- the count
-    pub count-plain : main .count b T .found ≡ countIf (holds b) (marksOf T)
+    pub count-plain : main .count b T .found counting ≡ countIf (holds b) (marksOf T)
     count-plain = count-agrees b T (marksOf T) holding-agrees
 
     pub count-budget : main .count b T .visits ≤ (4 * D (length (marksOf T)) + 1) * (2 * D (length (marksOf T)) + 1)
@@ -182,13 +208,54 @@ module _ (xs : List ℕ) (T : Main) (h : Holding xs T) where
         let few : D (length (marksOf T)) ≤ 38 = omega (arith, holding-levels, most-levels (capacityOf xs) holding-small) in
         omega (arith, count-budget, budget-rises (D (length (marksOf T))) 38 few)
 
-    stands-found : slotMain (slotMark xs) .count b (h .slots) ≡ main .count b T
+    stands-found : mapFound (slotMark xs) (slotMain (slotMark xs) .count b (h .slots)) ≡ main .count b T
     stands-found = stands-count (slotMark xs) b (h .slots) ∙ ap (main .count b) (h .stands)
 
-    pub count-sound : boxCrossed b ≡ false → mainCount♯ xs b ≡ pack (main .count b T .found) (main .count b T .visits)
-    count-sound fine =
-        count-of xs (h .slots) (h .holds) (h .rules) holding-small holding-room b fine (subst (λ a. a .visits ≤ mostVisits) (sym stands-found) count-most)
-        ∙ ap (λ a. pack (a .found) (a .visits)) stands-found
+    abbrev figuresOf : Found Mark → ℕ
+    figuresOf a = packed (a .found counting) (a .visits) (a .found grading)
+
+    count-tally : boxCrossed b ≡ false → mainCount♯ xs b ≡ figuresOf (main .count b T)
+    count-tally fine =
+        count-of xs (h .slots) (h .holds) (h .rules) graded-slots holding-small holding-room b fine
+        (subst (λ a. a .visits ≤ mostVisits) (sym stands-found) count-most)
+        ∙ ap figuresOf stands-found
+
+    -- THE TALLY OF A COUNT: the number, the visits, and the grades' figure taken apart into sum and worst
+    grades-few : main .count b T .found grading < 2147483648
+    grades-few =
+        rw (total-agrees b T (marksOf T) holding-agrees grading grading-laws)
+        (passing-small (λ m. m .grade) (holds b) holding-graded (omega (arith, holding-within, holding-small)))
+
+    grades-parts : main .count b T .found grading ≡ 256 * totalIf summing (holds b) (marksOf T) + totalIf worst (holds b) (marksOf T)
+    grades-parts = total-agrees b T (marksOf T) holding-agrees grading grading-laws ∙ passing-parts (λ m. m .grade) (holds b) holding-graded
+
+    worst-few : totalIf worst (holds b) (marksOf T) ≤ 100
+    worst-few = greatest-most 100 (λ m. m .grade) (holds b) holding-graded
+
+    module _ (fine : boxCrossed b ≡ false) where
+      abbrev found : Found Mark
+      found = main .count b T
+
+      pub count-found : foundIn (mainCount♯ xs b) ≡ countIf (holds b) (marksOf T)
+      count-found =
+          ap foundIn (count-tally fine)
+          ∙ packed-found (found .found counting) (found .visits) (found .found grading) (omega (arith, count-most)) grades-few ∙ count-plain
+
+      pub count-visited : visitsIn (mainCount♯ xs b) ≡ main .count b T .visits
+      count-visited =
+          ap visitsIn (count-tally fine)
+          ∙ packed-visits (found .found counting) (found .visits) (found .found grading) (omega (arith, count-most)) grades-few
+
+      graded : gradesIn (mainCount♯ xs b) ≡ 256 * totalIf summing (holds b) (marksOf T) + totalIf worst (holds b) (marksOf T)
+      graded =
+          ap gradesIn (count-tally fine)
+          ∙ packed-grades (found .found counting) (found .visits) (found .found grading) (omega (arith, count-most)) grades-few ∙ grades-parts
+
+      pub count-sum : sumOf (gradesIn (mainCount♯ xs b)) ≡ totalIf summing (holds b) (marksOf T)
+      count-sum = ap sumOf graded ∙ parts-sum (totalIf summing (holds b) (marksOf T)) (totalIf worst (holds b) (marksOf T)) worst-few
+
+      pub count-worst : worstOf (gradesIn (mainCount♯ xs b)) ≡ totalIf worst (holds b) (marksOf T)
+      count-worst = ap worstOf graded ∙ parts-worst (totalIf summing (holds b) (marksOf T)) (totalIf worst (holds b) (marksOf T)) worst-few
 
     -- the list
     pub list-within : main .list b T .visits ≤ visitsWithin (capacityOf xs) + 2 * countIf (holds b) (marksOf T)
@@ -210,13 +277,15 @@ module _ (xs : List ℕ) (T : Main) (h : Holding xs T) where
     met-held p =
         met-listed p ∙ sym (sort-countIf belowX p (main .list b T .marks)) ∙ ap (countIf p) (list-agrees b T (marksOf T) holding-agrees)
 
+    met-once : Distinct sheet (map (slotMark xs) met-slots)
+    met-once q =
+        omega (arith, met-held (same q), sorted-distinct sheet-sameness alongX-laws (filterBy-sorted (holds b) (holding-agrees .sorted)) q)
+
     met-sorts : sort belowX (map (slotMark xs) met-slots) ≡ filterBy (holds b) (marksOf T)
     met-sorts =
         let met = map (slotMark xs) met-slots in
-        let s = filterBy-sorted (holds b) (holding-agrees .sorted) in
-        sorted-unique sheet-sameness alongX-laws same (sheet-sameness .self) same-sound
-        (sort-sorted sheet-sameness alongX-laws met (λ q. omega (arith, met-held (same q), sorted-distinct sheet-sameness alongX-laws s q)))
-        s
+        sorted-unique sheet-sameness alongX-laws equal equal-self equal-sound (sort-sorted sheet-sameness alongX-laws met met-once)
+        (filterBy-sorted (holds b) (holding-agrees .sorted))
         (λ p. sort-countIf belowX p met ∙ met-held p)
 
     met-many : length (map (slotMark xs) met-slots) ≡ countIf (holds b) (marksOf T)
@@ -224,7 +293,7 @@ module _ (xs : List ℕ) (T : Main) (h : Holding xs T) where
         sameBag-length (map (slotMark xs) met-slots) (filterBy (holds b) (marksOf T)) met-held ∙ filterBy-length (holds b) (marksOf T)
 
     pub list-sound : (most : ℕ) (ys : List ℕ) → main .list b T .visits ≤ most → most < 2147483648
-        → 3 * countIf (holds b) (marksOf T) ≤ length ys → Lists xs T b most ys
+        → listPlace (countIf (holds b) (marksOf T)) ≤ length ys → Lists xs T b most ys
     list-sound most ys v few room =
         let n : length met-slots ≡ countIf (holds b) (marksOf T) = sym (length-map met-slots (slotMark xs)) ∙ met-many in
         let e : slotMain (slotMark xs) .list b (h .slots) .visits ≡ main .list b T .visits =
@@ -239,5 +308,6 @@ module _ (xs : List ℕ) (T : Main) (h : Holding xs T) where
               (sym (length-map met-slots (slotMark xs)));
           bag = met-listed;
           many = met-many;
+          once = met-once;
           sorts = met-sorts;
         }

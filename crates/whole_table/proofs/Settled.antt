@@ -16,7 +16,8 @@ use Rattle.twofold_layout.specs.Sound.{HoldsTree, TreeByRules}
 use Rattle.table.specs.Header.{capacityOf}
 
 -- A tree that words hold by marks g, which are those of its slots, they hold by their own marks.
-module _ {g : ℕ → Mark} {C : ℕ} {ys : List ℕ} (t : SlotMain) (is : armAt ys rootPlace ≡ armOf alongX g t) (two : TwoFold g C 0 ys t) (rules : ByRules g t) where
+module _ {g : ℕ → Mark} {C : ℕ}
+    {ys : List ℕ} (t : SlotMain) (is : armAt ys rootPlace ≡ armOf alongX g t) (two : TwoFold g C 0 ys t) (rules : ByRules g t) where
   own-marks : SameOn g (slotMark ys) (marks t)
   own-marks q k = sym (two .main .marked q k)
 

@@ -73,7 +73,8 @@ each-once-by C n cap many u p l = record {
 }
 
 -- INSERTION: the first free slot is put in
-pub each-once-insert : {xs ys : List ℕ} {o o′ : Option SlotMain} → SameLists xs ys → liveOf ys ≡ liveOf xs + 1 → EachOnce xs o → liveOf xs < capacityOf xs
+pub each-once-insert : {xs ys : List ℕ} {o o′ : Option SlotMain} → SameLists xs ys → liveOf ys ≡ liveOf xs + 1 → EachOnce xs o
+    → liveOf xs < capacityOf xs
     → ((q : ℕ) → timesIn q (marksOf o′) ≡ timesIn q (marksOf o) + indicator (eqb q (usedAt xs (liveOf xs)))) → EachOnce ys o′
 each-once-insert {xs = xs} {o′ = o′} k more e room slots =
     each-once-by (capacityOf xs) (liveOf xs + 1) (k .capacity) more
@@ -206,7 +207,8 @@ module _ (last s : ℕ) (zs : List ℕ) where
   w5-length = length-set w4 livePlace last ∙ w4-length
 
   -- a word that is none of the five
-  w5-other : (j : ℕ) → (j ≡ livePlace → ⊥) → (j ≡ placePlace C s → ⊥) → (j ≡ usedPlace C last → ⊥) → (j ≡ placePlace C movedSlot → ⊥)
+  w5-other : (j : ℕ) → (j ≡ livePlace → ⊥) → (j ≡ placePlace C s → ⊥) → (j ≡ usedPlace C last → ⊥)
+      → (j ≡ placePlace C movedSlot → ⊥)
       → (j ≡ usedPlace C vacated → ⊥) → getD w5 j 0 ≡ getD zs j 0
   w5-other j a b c d e =
       getD-set-other w4 livePlace j last 0 a ∙ getD-set-other w3 (placePlace C s) j last 0 b ∙ getD-set-other w2 (usedPlace C last) j s 0 c
@@ -316,7 +318,8 @@ module _ {zs : List ℕ} {o : Option SlotMain} (e : EachOnce zs o) (s : ℕ) (ow
       (w5-exchange (liveOf zs - 1) s zs (a .place) (a .moved) (a .last) own room o′ (omega (arith, struck-placed)) e one less)
 
 -- the same from the lists before the tree was struck
-pub each-once-strike : {xs zs : List ℕ} {o o′ : Option SlotMain} → SameLists xs zs → liveOf zs ≡ liveOf xs → EachOnce xs o → (s : ℕ) → s < capacityOf xs
+pub each-once-strike : {xs zs : List ℕ} {o o′ : Option SlotMain} → SameLists xs zs → liveOf zs ≡ liveOf xs → EachOnce xs o → (s : ℕ)
+    → s < capacityOf xs
     → liveOf xs ≤ capacityOf xs → timesIn s (marksOf o) ≡ 1 → placePlace (capacityOf xs) (capacityOf xs) ≤ length zs
     → ((q : ℕ) → timesIn q (marksOf o′) + indicator (eqb q s) ≡ timesIn q (marksOf o))
     → EachOnce (freeSlot♯ s zs) o′ × (liveOf (freeSlot♯ s zs) ≡ liveOf xs - 1)
@@ -345,6 +348,7 @@ module _ {s : ℕ} {zs : List ℕ} (a : Freeing s zs) where
   freeSlot-rules none h r = tt
   freeSlot-rules (some t) h r = settled-rules t (freeSlot-root ∙ h .0) (freeSlot-two t (h .1)) r
 
-  pub freeSlot-stands : (o : Option SlotMain) → HoldsTree zs o → TreeByRules zs o → marksMain (slotMark (freeSlot♯ s zs)) o ≡ marksMain (slotMark zs) o
+  pub freeSlot-stands : (o : Option SlotMain) → HoldsTree zs o → TreeByRules zs o
+      → marksMain (slotMark (freeSlot♯ s zs)) o ≡ marksMain (slotMark zs) o
   freeSlot-stands none h r = refl
   freeSlot-stands (some t) h r = settled-stands t (freeSlot-root ∙ h .0) (freeSlot-two t (h .1)) r

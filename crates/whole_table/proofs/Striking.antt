@@ -1,6 +1,7 @@
 -- A strike of a mark from a sound table that has it leaves a sound table that holds the model's tree, and gives the model's figure. Assumes nothing.
 use Prim.Native.Nat.{ℕ, _+_, _-_, _≤_, _<_}
-use mathlib.Core.Path.{_≡_, refl, sym, ap, ap₂, subst, _∙_}
+use mathlib.Core.Path.{_≡_, refl, sym, ap, subst, _∙_}
+use mathlib.Core.Bool.{true}
 use mathlib.Core.List.{List}
 use mathlib.Core.Option.{Option, none, some}
 use native.Mathlib.Omega.{arith}
@@ -17,7 +18,7 @@ use Rattle.model.proofs.Logic.{by-cases}
 use Rattle.model.proofs.Lists.{all-removeFirst, removeFirst-length}
 use Rattle.model.proofs.Orders.{sheet-sameness, alongX-laws}
 use Rattle.model.proofs.Tree.{rebalance-marks}
-use Rattle.model.proofs.TwoFold.{main-strike-marks}
+use Rattle.model.proofs.TwoFold.{main-strike-marks, main-strike-alike, main-strikeRebuilt-alike}
 use Rattle.table.specs.Layout.{openPlace, livePlace, rootPlace}
 use Rattle.table.specs.Limits.{damaged}
 use Rattle.table.specs.Marks.{slotMark}
@@ -88,7 +89,8 @@ module _ (xs : List ℕ) (s : ℕ) (small : capacityOf xs ≤ 65536) (long : len
   abbrev f : ℕ → Mark
   f = slotMark xs
 
-  taken-of : (o : Option SlotMain) → HoldsTree xs o → TreeByRules xs o → 0 < timesIn s (marksOf o) → Taken f s xs (mainStrike♯ (capacityOf xs) (f s) s xs) o
+  taken-of : (o : Option SlotMain) → HoldsTree xs o → TreeByRules xs o → 0 < timesIn s (marksOf o)
+      → Taken f s xs (mainStrike♯ (capacityOf xs) (f s) s xs) o
   taken-of none h r n = absurd (omega arith)
   taken-of (some (leaf q)) h r n =
       let k = mainStrike-lone f (capacityOf xs) small s q xs long (h .0) in
@@ -123,16 +125,16 @@ module _ (xs : List ℕ) (T : Main) (h : Holding xs T) (m : Mark) (has : 0 < cou
   abbrev slot : ℕ
   slot = find♯ xs m
 
-  found : (slot < capacityOf xs) × (slotMark xs slot ≡ m) × (timesIn slot (marksOf (h .slots)) ≡ 1)
+  found : (slot < capacityOf xs) × (same m (slotMark xs slot) ≡ true) × (timesIn slot (marksOf (h .slots)) ≡ 1)
   found = find-sound xs T h m has
 
   -- the words and the figure after the strike from the tree, before the slot is freed
   p : After ℕ
   p = mainStrike♯ (capacityOf xs) (slotMark xs slot) slot xs
 
-  goes : tableStrike♯ m slot xs ≡ after (p .out) (freeSlot♯ slot (p .words))
+  goes : tableStrike♯ slot xs ≡ after (p .out) (freeSlot♯ slot (p .words))
   unfolding tableStrike♯ struck p
-  goes = ap (λ a. after (mainStrike♯ (capacityOf xs) a slot xs .out) (freeSlot♯ slot (mainStrike♯ (capacityOf xs) a slot xs .words))) (sym (found .1))
+  goes = refl
 
   abbrev o : Option SlotMain
   o = slotMain (slotMark xs) .strike slot (h .slots)
@@ -166,7 +168,7 @@ module _ (xs : List ℕ) (T : Main) (h : Holding xs T) (m : Mark) (has : 0 < cou
   stands-taken : marksMain (slotMark (freeSlot♯ slot zs)) o ≡ main .strike m T
   stands-taken =
       freeSlot-stands frees o (taken .holds) (taken .rules) ∙ taken .stands ∙ stands-strike (slotMark xs) slot (h .slots)
-      ∙ ap₂ (λ a o. main .strike a o) (found .1) (h .stands)
+      ∙ ap (main .strike (slotMark xs slot)) (h .stands) ∙ sym (main-strike-alike m (slotMark xs slot) (found .1) T)
 
   taken-holding : Holding (freeSlot♯ slot zs) (main .strike m T)
   taken-holding =
@@ -180,23 +182,25 @@ module _ (xs : List ℕ) (T : Main) (h : Holding xs T) (m : Mark) (has : 0 < cou
         holds = freeSlot-holds frees o (taken .holds) (taken .rules);
         rules = freeSlot-rules frees o (taken .holds) (taken .rules);
         coordinates = rw struck-marks (all-removeFirst (same m) (h .coordinates));
+        grades = rw struck-marks (all-removeFirst (same m) (h .grades));
         live = freed .1 ∙ omega (arith, h .live, ap length struck-marks, removeFirst-length (same m) (marksOf T) has);
         free = freed .0;
       }
 
-  pub strike-sound : Holding (tableStrike♯ m (find♯ xs m) xs .words) (main .strike m T)
-      × (tableStrike♯ m (find♯ xs m) xs .out ≡ strikeRebuilt alongX auxiliary m T) × (tableStrike♯ m (find♯ xs m) xs .out ≡ damaged → ⊥)
+  pub strike-sound : Holding (tableStrike♯ (find♯ xs m) xs .words) (main .strike m T)
+      × (tableStrike♯ (find♯ xs m) xs .out ≡ strikeRebuilt alongX auxiliary m T) × (tableStrike♯ (find♯ xs m) xs .out ≡ damaged → ⊥)
   strike-sound =
       rw goes (
         taken-holding,
-        taken .out ∙ stands-strikeRebuilt (slotMark xs) slot (h .slots) ∙ ap₂ (λ a o. strikeRebuilt alongX auxiliary a o) (found .1) (h .stands),
+        taken .out ∙ stands-strikeRebuilt (slotMark xs) slot (h .slots) ∙ ap (strikeRebuilt alongX auxiliary (slotMark xs slot)) (h .stands)
+            ∙ sym (main-strikeRebuilt-alike m (slotMark xs slot) (found .1) T),
         taken .fine,
       )
 
-  pub strike-capacity : capacityOf (tableStrike♯ m (find♯ xs m) xs .words) ≡ capacityOf xs
+  pub strike-capacity : capacityOf (tableStrike♯ (find♯ xs m) xs .words) ≡ capacityOf xs
   strike-capacity = rw goes (freeSlot-capacity frees ∙ lists .capacity)
 
   -- WHAT IT LEAVES ALONE: all but the tree's words, and then all but the live marks' and the lists of slots
   pub strike-frame : (zs : List ℕ) × TableFrame (capacityOf xs) xs zs
-      × Unchanged (OffLists (capacityOf xs)) zs (tableStrike♯ m (find♯ xs m) xs .words)
+      × Unchanged (OffLists (capacityOf xs)) zs (tableStrike♯ (find♯ xs m) xs .words)
   strike-frame = rw goes (zs, taken .frame, subst (λ c. Unchanged (OffLists c) zs (freeSlot♯ slot zs)) (lists .capacity) (freeSlot-unchanged slot zs frees))

@@ -2,8 +2,8 @@
 use Prim.Native.Nat.{ℕ, _-_}
 use mathlib.Core.List.{List}
 use lib.ListN.{getD, set}
-use Rattle.model.specs.Sheet.{Mark}
 use Rattle.table.specs.Layout.{capacityPlace, livePlace, usedPlace, placePlace}
+use Rattle.table.specs.Marks.{slotMark}
 use Rattle.table.specs.After.{After, after}
 use Rattle.primary_strike.specs.Strike.{mainStrike♯}
 
@@ -22,5 +22,6 @@ freeSlot♯ s xs = freeWithin (getD xs capacityPlace 0) (getD xs livePlace 0 - 1
 unfoldable pub struck : ℕ → After ℕ → After ℕ
 struck s p = after (p .out) (freeSlot♯ s (p .words))
 
-unfoldable pub tableStrike♯ : Mark → ℕ → List ℕ → After ℕ
-tableStrike♯ m s xs = struck s (mainStrike♯ (getD xs capacityPlace 0) m s xs)
+-- the mark that stands in slot s
+unfoldable pub tableStrike♯ : ℕ → List ℕ → After ℕ
+tableStrike♯ s xs = struck s (mainStrike♯ (getD xs capacityPlace 0) (slotMark xs s) s xs)

@@ -1,13 +1,13 @@
 // Strike of a mark from a table.
 ghost use mathlib.Core.Path.{_≡_};
-ghost use Rattle.geometry.specs.Values.{markValue};
+ghost use Prim.Native.Nat.{_<_};
 ghost use Rattle.table.specs.After.{after};
 ghost use Rattle.table.specs.Header.{OfCapacity};
 ghost use Rattle.whole_table.specs.Strike.{freeSlot♯, tableStrike♯};
-use geometry::Mark;
 use nodes::weights;
 use table::header;
 use table::runs;
+use table::slots;
 
 // Frees slot s: it changes places in `used` with the last live slot.
 fn free_slot(t: &mut [u32], s: u32)
@@ -24,11 +24,12 @@ fn free_slot(t: &mut [u32], s: u32)
     header::put_live(t, last);
 }
 
-// Strikes the mark m, which stands in slot s. Gives the weight of the main node built afresh, or 0; limits::DAMAGED where the table is not sound.
-pub fn strike(t: &mut [u32], capacity: u32, m: Mark, s: u32) -> u32
-    requires { ⌜ OfCapacity capacity (now t) ⌝ }
-    ensures { λ r. ⌜ after r (now (t .exit)) ≡ tableStrike♯ (markValue m) s (now (t .entry)) ⌝ }
+// Strikes the mark that stands in slot s. Gives the weight of the main node built afresh, or 0; limits::DAMAGED where the table is not sound.
+pub fn strike(t: &mut [u32], capacity: u32, s: u32) -> u32
+    requires { ⌜ OfCapacity capacity (now t) × (s < capacity) ⌝ }
+    ensures { λ r. ⌜ after r (now (t .exit)) ≡ tableStrike♯ s (now (t .entry)) ⌝ }
 {
+    let m = slots::load(t, s);
     let rebuilt = primary_strike::strike::strike(t, capacity, m, s);
     free_slot(t, s);
     rebuilt

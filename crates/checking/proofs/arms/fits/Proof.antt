@@ -3,28 +3,28 @@ use Rattle.checking.proofs.arms.fits.Statement.{statement}
 use Rattle.checking.specs.Span.{fits♯}
 use Rattle.checking.proofs.arms.fits.Tie as tie
 
--- src/arms.rt:25:8
+-- src/arms.rt:27:8
 disagree-requires : tie.Need-disagree-requires
 disagree-requires c κs = search needs
 
--- src/arms.rt:26:9
+-- src/arms.rt:28:9
 returns : tie.Need-returns
 unfolding fits♯
 returns c = rw (← c .before .disagree .ensures, c .if1 .taken)
 
--- src/arms.rt:28:8
+-- src/arms.rt:30:8
 balanced-requires : tie.Need-balanced-requires
 balanced-requires c κs = search needs
 
--- src/arms.rt:29:24
+-- src/arms.rt:31:24
 over-requires : tie.Need-over-requires
 over-requires c κs = search needs
 
--- src/arms.rt:29:9
+-- src/arms.rt:31:9
 same-requires : tie.Need-same-requires
 same-requires c κs = search needs
 
--- src/arms.rt:29:9
+-- src/arms.rt:31:9
 returns-2 : tie.Need-returns-2
 unfolding fits♯
 returns-2 c =
@@ -41,7 +41,7 @@ returns-2 c =
       ← c .same .ensures,
     )
 
--- src/arms.rt:22:1
+-- src/arms.rt:24:1
 returns-3 : tie.Need-returns-3
 unfolding fits♯
 returns-3 c =

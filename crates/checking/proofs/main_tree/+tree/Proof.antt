@@ -56,23 +56,23 @@ said t = (
   over-reads.Learnt,
 )
 
--- src/main_tree.rt:109:9
+-- src/main_tree.rt:112:9
 tree-none-requires : (t : ℕ) → tree-lts.Need-none-requires (said t) (tree-at t) tree.Post
 tree-none-requires t c κs = search needs
 
--- src/main_tree.rt:109:9
+-- src/main_tree.rt:112:9
 tree-returns : (t : ℕ) → tree-lts.Need-returns (said t) (tree-at t) tree.Post
 tree-returns t c = rw (mainSpan♯-zero _ (c .before .if1 .taken), ← c .none .ensures)
 
--- src/main_tree.rt:112:9
+-- src/main_tree.rt:115:9
 tree-slot-requires : (t : ℕ) → tree-lts.Need-slot-requires (said t) (tree-at t) tree.Post
 tree-slot-requires t c κs = search needs
 
--- src/main_tree.rt:114:9
+-- src/main_tree.rt:117:9
 tree-none-requires-2 : (t : ℕ) → tree-lts.Need-none-requires-2 (said t) (tree-at t) tree.Post
 tree-none-requires-2 t c κs = search needs
 
--- src/main_tree.rt:114:9
+-- src/main_tree.rt:117:9
 tree-returns-2 : (t : ℕ) → tree-lts.Need-returns-2 (said t) (tree-at t) tree.Post
 unfolding spanStep
 tree-returns-2 t c =
@@ -85,15 +85,15 @@ tree-returns-2 t c =
       ← c .none2 .ensures,
     )
 
--- src/main_tree.rt:116:8
+-- src/main_tree.rt:119:8
 tree-is-leaf-requires : (t : ℕ) → tree-lts.Need-is-leaf-requires (said t) (tree-at t) tree.Post
 tree-is-leaf-requires t c κs = search needs
 
--- src/main_tree.rt:117:9
+-- src/main_tree.rt:120:9
 tree-leaf-requires : (t : ℕ) → tree-lts.Need-leaf-requires (said t) (tree-at t) tree.Post
 tree-leaf-requires t c κs = search needs
 
--- src/main_tree.rt:117:9
+-- src/main_tree.rt:120:9
 tree-returns-3 : (t : ℕ) → tree-lts.Need-returns-3 (said t) (tree-at t) tree.Post
 unfolding spanStep
 tree-returns-3 t c =
@@ -110,35 +110,35 @@ tree-returns-3 t c =
       ← c .leaf .ensures,
     )
 
--- src/main_tree.rt:119:9
+-- src/main_tree.rt:122:9
 tree-load-requires : (t : ℕ) → tree-lts.Need-load-requires (said t) (tree-at t) tree.Post
 tree-load-requires t c κs = search needs
 
--- src/main_tree.rt:122:19
+-- src/main_tree.rt:125:19
 tree-bare-requires : (t : ℕ) → tree-lts.Need-bare-requires (said t) (tree-at t) tree.Post
 tree-bare-requires t c κs = search needs
 
--- src/main_tree.rt:122:35
+-- src/main_tree.rt:125:35
 tree-bare-requires-2 : (t : ℕ) → tree-lts.Need-bare-requires-2 (said t) (tree-at t) tree.Post
 tree-bare-requires-2 t c κs = search needs
 
--- src/main_tree.rt:122:45
+-- src/main_tree.rt:125:45
 tree-bare-requires-3 : (t : ℕ) → tree-lts.Need-bare-requires-3 (said t) (tree-at t) tree.Post
 tree-bare-requires-3 t c κs = search needs
 
--- src/main_tree.rt:122:8
+-- src/main_tree.rt:125:8
 tree-fits-requires : (t : ℕ) → tree-lts.Need-fits-requires (said t) (tree-at t) tree.Post
 tree-fits-requires t c κs = search needs
 
--- src/main_tree.rt:123:13
+-- src/main_tree.rt:126:13
 tree-deeper-requires : (t : ℕ) → tree-lts.Need-deeper-requires (said t) (tree-at t) tree.Post
 tree-deeper-requires t c κs = search needs
 
--- src/main_tree.rt:124:50
+-- src/main_tree.rt:127:50
 tree-sub-tree : (t : ℕ) → tree-lts.Need-sub-tree (said t) (tree-at t) tree.Post
 tree-sub-tree t c = search needs
 
--- src/main_tree.rt:124:13
+-- src/main_tree.rt:127:13
 tree-tree-requires : (t : ℕ) → tree-lts.Need-tree-requires (said t) (tree-at t) tree.Post
 tree-tree-requires t c κs =
     let at-bare = c .before .before .before .before .before in
@@ -147,7 +147,7 @@ tree-tree-requires t c κs =
     let at-start = at-if1 .before .before in
     search (needs, at-if1 .if1 .left, at-start .pre)
 
--- src/main_tree.rt:125:50
+-- src/main_tree.rt:128:50
 tree-sub-tree-2 : (t : ℕ) → tree-lts.Need-sub-tree-2 (said t) (tree-at t) tree.Post
 tree-sub-tree-2 t c =
     let at-bare2 = c .before .before .before .before .before in
@@ -156,7 +156,7 @@ tree-sub-tree-2 t c =
     let at-start = at-if1 .before .before in
     search (needs, at-if1 .if1 .left, at-start .pre)
 
--- src/main_tree.rt:125:13
+-- src/main_tree.rt:128:13
 tree-tree-requires-2 : (t : ℕ) → tree-lts.Need-tree-requires-2 (said t) (tree-at t) tree.Post
 tree-tree-requires-2 t c κs =
     let at-bare2 = c .before .before .before .before .before in
@@ -165,7 +165,7 @@ tree-tree-requires-2 t c κs =
     let at-start = at-if1 .before .before in
     search (needs, at-if1 .if1 .left, at-start .pre)
 
--- src/main_tree.rt:126:9
+-- src/main_tree.rt:129:9
 tree-over-requires : (t : ℕ) → tree-lts.Need-over-requires (said t) (tree-at t) tree.Post
 tree-over-requires t c κs =
     let at-bare3 = c .before .before .before .before .before in
@@ -177,7 +177,7 @@ tree-over-requires t c κs =
     let right = subst (Within (at-start .args .capacity)) (sym (c .tree2 .ensures)) (main-within _ _ _ _ _ _ some) in
     (at-if2 .if2 .left, left, right, omega (arith, at-start .pre))
 
--- src/main_tree.rt:126:9
+-- src/main_tree.rt:129:9
 tree-returns-4 : (t : ℕ) → tree-lts.Need-returns-4 (said t) (tree-at t) tree.Post
 unfolding spanStep spanNode
 tree-returns-4 t c =
@@ -212,11 +212,11 @@ tree-returns-4 t c =
       ← c .over .ensures,
     )
 
--- src/main_tree.rt:128:5
+-- src/main_tree.rt:131:5
 tree-none-requires-3 : (t : ℕ) → tree-lts.Need-none-requires-3 (said t) (tree-at t) tree.Post
 tree-none-requires-3 t c κs = search needs
 
--- src/main_tree.rt:104:1
+-- src/main_tree.rt:107:1
 tree-returns-5 : (t : ℕ) → tree-lts.Need-returns-5 (said t) (tree-at t) tree.Post
 unfolding spanStep spanNode
 tree-returns-5 t c =

@@ -9,20 +9,20 @@ use Rattle.checking.proofs.auxiliary_tree.tree.Reads as tree-reads
 use Rattle.nodes.proofs.primary.PrimaryRecord.load_auxiliary.Reads as load-auxiliary-reads
 use Rattle.nodes.proofs.secondary.SecondaryRecord.lacks_level.Reads as lacks-level-reads
 
--- src/main_tree.rt:67:8
+-- src/main_tree.rt:70:8
 lacks-level-requires : tie.Need-lacks-level-requires
 lacks-level-requires c κs = search needs
 
--- src/main_tree.rt:68:9
+-- src/main_tree.rt:71:9
 returns : tie.Need-returns
 unfolding auxiliaryStands♯
 returns c = rw (← c .before .lacks-level .ensures .0, c .if1 .taken)
 
--- src/main_tree.rt:70:9
+-- src/main_tree.rt:73:9
 load-auxiliary-requires : tie.Need-load-auxiliary-requires
 load-auxiliary-requires c κs = search needs
 
--- src/main_tree.rt:72:13
+-- src/main_tree.rt:75:13
 tree-requires : tie.Need-tree-requires
 tree-requires c κs =
     let at-if1 = c .before .before .before in
@@ -30,7 +30,7 @@ tree-requires c κs =
     let at-start = at-lacks-level .before .before in
     (at-start .pre .1, at-start .pre .2, at-start .pre .3, at-lacks-level .lacks-level .ensures .1 (at-if1 .if1 .left))
 
--- src/main_tree.rt:73:9
+-- src/main_tree.rt:76:9
 returns-2 : tie.Need-returns-2
 unfolding auxiliaryStands♯
 returns-2 c =
@@ -45,7 +45,7 @@ returns-2 c =
       ← c .tree .ensures,
     )
 
--- src/main_tree.rt:54:1
+-- src/main_tree.rt:57:1
 returns-3 : tie.Need-returns-3
 unfolding auxiliaryStands♯
 returns-3 c =

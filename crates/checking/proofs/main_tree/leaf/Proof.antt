@@ -5,31 +5,31 @@ use Rattle.checking.specs.Span.{spanLeaf}
 use mathlib.Core.Logic.{⊎-elim}
 use Rattle.checking.proofs.main_tree.leaf.Tie as tie
 
--- src/main_tree.rt:43:8
+-- src/main_tree.rt:46:8
 may-stand-requires : tie.Need-may-stand-requires
 may-stand-requires c κs = search needs
 
--- src/main_tree.rt:44:13
+-- src/main_tree.rt:47:13
 load-requires : tie.Need-load-requires
 load-requires c κs = search needs
 
--- src/main_tree.rt:45:23
+-- src/main_tree.rt:48:23
 bare-requires : tie.Need-bare-requires
 bare-requires c κs = search needs
 
--- src/main_tree.rt:45:33
+-- src/main_tree.rt:48:33
 leaf-requires : tie.Need-leaf-requires
 leaf-requires c κs = search needs
 
--- src/main_tree.rt:45:12
+-- src/main_tree.rt:48:12
 same-requires : tie.Need-same-requires
 same-requires c κs = search needs
 
--- src/main_tree.rt:46:13
+-- src/main_tree.rt:49:13
 between-requires : tie.Need-between-requires
 between-requires c κs = search needs
 
--- src/main_tree.rt:46:13
+-- src/main_tree.rt:49:13
 returns : tie.Need-returns
 unfolding mainSlot♯ spanLeaf
 returns c =
@@ -50,11 +50,11 @@ returns c =
       ← c .between .ensures,
     )
 
--- src/main_tree.rt:49:5
+-- src/main_tree.rt:52:5
 none-requires : tie.Need-none-requires
 none-requires c κs = search needs
 
--- src/main_tree.rt:39:1
+-- src/main_tree.rt:42:1
 returns-2 : tie.Need-returns-2
 unfolding mainSlot♯ spanLeaf
 returns-2 c =

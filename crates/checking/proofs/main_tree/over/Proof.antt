@@ -4,31 +4,31 @@ use Rattle.checking.proofs.main_tree.over.Statement.{statement}
 use Rattle.checking.specs.Span.{spanOver}
 use Rattle.checking.proofs.main_tree.over.Tie as tie
 
--- src/main_tree.rt:92:8
+-- src/main_tree.rt:95:8
 joins-requires : tie.Need-joins-requires
 joins-requires c κs = search needs
 
--- src/main_tree.rt:93:13
+-- src/main_tree.rt:96:13
 load-requires : tie.Need-load-requires
 load-requires c κs = search needs
 
--- src/main_tree.rt:94:22
+-- src/main_tree.rt:97:22
 load-requires-2 : tie.Need-load-requires-2
 load-requires-2 c κs = search needs
 
--- src/main_tree.rt:94:12
+-- src/main_tree.rt:97:12
 below-x-requires : tie.Need-below-x-requires
 below-x-requires c κs = search needs
 
--- src/main_tree.rt:95:16
+-- src/main_tree.rt:98:16
 auxiliary-stands-requires : tie.Need-auxiliary-stands-requires
 auxiliary-stands-requires c κs = search needs
 
--- src/main_tree.rt:96:17
+-- src/main_tree.rt:99:17
 between-requires : tie.Need-between-requires
 between-requires c κs = search needs
 
--- src/main_tree.rt:96:17
+-- src/main_tree.rt:99:17
 returns : tie.Need-returns
 unfolding spanOver
 returns c =
@@ -51,11 +51,11 @@ returns c =
       ← c .between .ensures,
     )
 
--- src/main_tree.rt:100:5
+-- src/main_tree.rt:103:5
 none-requires : tie.Need-none-requires
 none-requires c κs = search needs
 
--- src/main_tree.rt:79:1
+-- src/main_tree.rt:82:1
 returns-2 : tie.Need-returns-2
 unfolding spanOver
 returns-2 c =

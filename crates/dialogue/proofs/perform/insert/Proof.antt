@@ -15,6 +15,9 @@ insert-requires c κs = search needs
 figures-requires : tie.Need-figures-requires
 figures-requires c κs = search needs
 
+slice-aggregate-put-first : tie.Need-slice-aggregate-put-first
+slice-aggregate-put-first c = search needs
+
 put-first-requires : tie.Need-put-first-requires
 put-first-requires c κs = search needs
 
@@ -27,7 +30,7 @@ same-length-2 c = search needs
 returns : tie.Need-returns
 returns c =
     let at-put-first = c .before .before in
-    let at-figures = at-put-first .before .before in
+    let at-figures = at-put-first .before .before .before in
     let at-insert = at-figures .before .before .before in
     let at-start = at-insert .before .before .before .before in
     let m = markValue (at-start .args .m) in
@@ -42,6 +45,7 @@ insert-spec =
     (tie.spec
     insert-requires
     figures-requires
+    slice-aggregate-put-first
     put-first-requires
     same-length
     same-length-2

@@ -20,6 +20,9 @@ list-requires c κs = search needs
 figures-requires : tie.Need-figures-requires
 figures-requires c κs = search needs
 
+slice-aggregate-put-first : tie.Need-slice-aggregate-put-first
+slice-aggregate-put-first c = search needs
+
 put-first-requires : tie.Need-put-first-requires
 put-first-requires c κs = search needs
 
@@ -35,7 +38,7 @@ same-length-3 c = search needs
 returns : tie.Need-returns
 returns c =
     let at-put-first = c .before .before .before .before in
-    let at-figures = at-put-first .before .before in
+    let at-figures = at-put-first .before .before .before in
     let at-list = at-figures .before .before .before .before .before in
     let at-slice-known2 = at-list .before .before .before .before in
     let at-start = at-slice-known2 .before .before .before in
@@ -49,7 +52,7 @@ put-marks-requires : tie.Need-put-marks-requires
 put-marks-requires c κs =
     let at-if1 = c .before .before .before .before in
     let at-put-first = at-if1 .before .before .before .before in
-    let at-figures = at-put-first .before .before in
+    let at-figures = at-put-first .before .before .before in
     let at-list = at-figures .before .before .before .before .before in
     let at-slice-known2 = at-list .before .before .before .before in
     let start = at-slice-known2 .before .before .before in
@@ -82,7 +85,7 @@ returns-2 c =
     let at-if2 = at-put-marks .before .before .before in
     let at-if1 = at-if2 .before .before in
     let at-put-first = at-if1 .before .before .before .before in
-    let at-figures = at-put-first .before .before in
+    let at-figures = at-put-first .before .before .before in
     let at-list = at-figures .before .before .before .before .before in
     let at-slice-known2 = at-list .before .before .before .before in
     let at-start = at-slice-known2 .before .before .before in
@@ -101,7 +104,7 @@ put-marks-requires-2 : tie.Need-put-marks-requires-2
 put-marks-requires-2 c κs =
     let at-if1 = c .before .before .before .before in
     let at-put-first = at-if1 .before .before .before .before in
-    let at-figures = at-put-first .before .before in
+    let at-figures = at-put-first .before .before .before in
     let at-list = at-figures .before .before .before .before .before in
     let at-slice-known2 = at-list .before .before .before .before in
     let start = at-slice-known2 .before .before .before in
@@ -134,7 +137,7 @@ returns-3 c =
     let at-if2 = at-put-marks2 .before .before .before in
     let at-if1 = at-if2 .before .before in
     let at-put-first = at-if1 .before .before .before .before in
-    let at-figures = at-put-first .before .before in
+    let at-figures = at-put-first .before .before .before in
     let at-list = at-figures .before .before .before .before .before in
     let at-slice-known2 = at-list .before .before .before .before in
     let at-start = at-slice-known2 .before .before .before in
@@ -155,6 +158,7 @@ list-spec =
     (tie.spec
     list-requires
     figures-requires
+    slice-aggregate-put-first
     put-first-requires
     same-length
     same-length-2

@@ -67,8 +67,8 @@ returns-2 c =
     let at-start = at-line2 .before .before .before .before .before .before in
     let told = at-line2 .line2 .given in
     rw (told .1)
-    (does-command (strike (markValue (told .0 .0))) _ _ (at-strike .strike .ensures) (at-start .pre .0) (search needs)
-    (search needs) (search needs))
+    (does-command (strike (told .0 .0) (told .0 .1 .0) (told .0 .1 .1 .0)) _ _ (at-strike .strike .ensures)
+    (at-start .pre .0) (search needs) (search needs) (search needs))
 
 same-length-5 : tie.Need-same-length-5
 same-length-5 c = search needs

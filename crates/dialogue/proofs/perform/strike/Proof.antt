@@ -1,7 +1,7 @@
 -- `strike` meets its contract. Assumes nothing.
 use mathlib.Core.Path.{refl}
+use Rattle.model.specs.Sheet.{mark}
 use Rattle.model.specs.History as history
-use Rattle.geometry.specs.Values.{markValue}
 use Rattle.register.specs.Answers.{updateGiven}
 use Rattle.lines.specs.Commands.{strike}
 use Rattle.dialogue.proofs.Answering.{answered-first}
@@ -15,6 +15,9 @@ strike-requires c κs = search needs
 figures-requires : tie.Need-figures-requires
 figures-requires c κs = search needs
 
+slice-aggregate-put-first : tie.Need-slice-aggregate-put-first
+slice-aggregate-put-first c = search needs
+
 put-first-requires : tie.Need-put-first-requires
 put-first-requires c κs = search needs
 
@@ -27,12 +30,12 @@ same-length-2 c = search needs
 returns : tie.Need-returns
 returns c =
     let at-put-first = c .before .before in
-    let at-figures = at-put-first .before .before in
+    let at-figures = at-put-first .before .before .before in
     let at-strike = at-figures .before .before .before in
     let at-start = at-strike .before .before .before .before in
-    let m = markValue (at-start .args .m) in
+    let a = at-start .args in
     let f = at-figures .figures in
-    answered-first (strike m) (history.strike m) _ _
+    answered-first (strike (a .x) (a .y) (a .tag)) (history.strike (mark (a .x) (a .y) (a .tag) 0)) _ _
     (updateGiven (f .result .number) (f .result .live) (f .result .rebuilt))
     (rw (← f .ensures) at (at-strike .strike .ensures)) refl (at-put-first .put-first .ensures)
 
@@ -42,6 +45,7 @@ strike-spec =
     (tie.spec
     strike-requires
     figures-requires
+    slice-aggregate-put-first
     put-first-requires
     same-length
     same-length-2

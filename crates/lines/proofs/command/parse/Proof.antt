@@ -8,11 +8,11 @@ use Rattle.lines.proofs.command.parse.Tie as tie
 byte-requires : tie.Need-byte-requires
 byte-requires c κs = search needs
 
-read-mark-requires : tie.Need-read-mark-requires
-read-mark-requires c κs = search needs
+read-four-requires : tie.Need-read-four-requires
+read-four-requires c κs = search needs
 
-enum-known-m : tie.Need-enum-known-m
-enum-known-m c = search needs
+enum-known-x : tie.Need-enum-known-x
+enum-known-x c = search needs
 
 enum-told : tie.Need-enum-told
 enum-told c = search needs
@@ -20,34 +20,34 @@ enum-told c = search needs
 returns : tie.Need-returns
 unfolding read♯
 returns c =
-    let at-read-mark = c .before .before in
-    let at-if1 = at-read-mark .before in
+    let at-read-four = c .before .before in
+    let at-if1 = at-read-four .before in
     let at-byte = at-if1 .before in
     rw (
       ← at-byte .byte .ensures,
       eq-eqb _ 73 (at-if1 .if1 .taken),
-      ← at-read-mark .read-mark .ensures,
+      ← at-read-four .read-four .ensures,
       c .enum-told .given .1,
     )
 
 returns-2 : tie.Need-returns-2
 unfolding read♯
 returns-2 c =
-    let at-read-mark = c .before .before .before in
-    let at-if1 = at-read-mark .before in
+    let at-read-four = c .before .before .before in
+    let at-if1 = at-read-four .before in
     let at-byte = at-if1 .before in
     rw (
       ← at-byte .byte .ensures,
       eq-eqb _ 73 (at-if1 .if1 .taken),
-      ← at-read-mark .read-mark .ensures,
-      c .before .m .given .1,
+      ← at-read-four .read-four .ensures,
+      c .before .x .given .1,
     )
 
-read-mark-requires-2 : tie.Need-read-mark-requires-2
-read-mark-requires-2 c κs = search needs
+read-three-requires : tie.Need-read-three-requires
+read-three-requires c κs = search needs
 
-enum-known-m-2 : tie.Need-enum-known-m-2
-enum-known-m-2 c = search needs
+enum-known-x-2 : tie.Need-enum-known-x-2
+enum-known-x-2 c = search needs
 
 enum-told-2 : tie.Need-enum-told-2
 enum-told-2 c = search needs
@@ -55,38 +55,38 @@ enum-told-2 c = search needs
 returns-3 : tie.Need-returns-3
 unfolding read♯
 returns-3 c =
-    let at-read-mark2 = c .before .before in
-    let at-if2 = at-read-mark2 .before in
+    let at-read-three = c .before .before in
+    let at-if2 = at-read-three .before in
     let at-if1 = at-if2 .before in
     let at-byte = at-if1 .before in
     rw (
       ← at-byte .byte .ensures,
       ne-eqb _ 73 (at-if1 .if1 .left),
       eq-eqb _ 68 (at-if2 .if2 .taken),
-      ← at-read-mark2 .read-mark2 .ensures,
+      ← at-read-three .read-three .ensures,
       c .enum-told2 .given .1,
     )
 
 returns-4 : tie.Need-returns-4
 unfolding read♯
 returns-4 c =
-    let at-read-mark2 = c .before .before .before in
-    let at-if2 = at-read-mark2 .before in
+    let at-read-three = c .before .before .before in
+    let at-if2 = at-read-three .before in
     let at-if1 = at-if2 .before in
     let at-byte = at-if1 .before in
     rw (
       ← at-byte .byte .ensures,
       ne-eqb _ 73 (at-if1 .if1 .left),
       eq-eqb _ 68 (at-if2 .if2 .taken),
-      ← at-read-mark2 .read-mark2 .ensures,
-      c .before .m2 .given .1,
+      ← at-read-three .read-three .ensures,
+      c .before .x2 .given .1,
     )
 
-read-box-requires : tie.Need-read-box-requires
-read-box-requires c κs = search needs
+read-four-requires-2 : tie.Need-read-four-requires-2
+read-four-requires-2 c κs = search needs
 
-enum-known-b : tie.Need-enum-known-b
-enum-known-b c = search needs
+enum-known-x1 : tie.Need-enum-known-x1
+enum-known-x1 c = search needs
 
 enum-told-3 : tie.Need-enum-told-3
 enum-told-3 c = search needs
@@ -94,8 +94,8 @@ enum-told-3 c = search needs
 returns-5 : tie.Need-returns-5
 unfolding read♯
 returns-5 c =
-    let at-read-box = c .before .before in
-    let at-if3 = at-read-box .before in
+    let at-read-four2 = c .before .before in
+    let at-if3 = at-read-four2 .before in
     let at-if2 = at-if3 .before in
     let at-if1 = at-if2 .before in
     let at-byte = at-if1 .before in
@@ -104,15 +104,15 @@ returns-5 c =
       ne-eqb _ 73 (at-if1 .if1 .left),
       ne-eqb _ 68 (at-if2 .if2 .left),
       eq-eqb _ 67 (at-if3 .if3 .taken),
-      ← at-read-box .read-box .ensures,
+      ← at-read-four2 .read-four2 .ensures,
       c .enum-told3 .given .1,
     )
 
 returns-6 : tie.Need-returns-6
 unfolding read♯
 returns-6 c =
-    let at-read-box = c .before .before .before in
-    let at-if3 = at-read-box .before in
+    let at-read-four2 = c .before .before .before in
+    let at-if3 = at-read-four2 .before in
     let at-if2 = at-if3 .before in
     let at-if1 = at-if2 .before in
     let at-byte = at-if1 .before in
@@ -121,15 +121,15 @@ returns-6 c =
       ne-eqb _ 73 (at-if1 .if1 .left),
       ne-eqb _ 68 (at-if2 .if2 .left),
       eq-eqb _ 67 (at-if3 .if3 .taken),
-      ← at-read-box .read-box .ensures,
-      c .before .b .given .1,
+      ← at-read-four2 .read-four2 .ensures,
+      c .before .x1 .given .1,
     )
 
-read-box-requires-2 : tie.Need-read-box-requires-2
-read-box-requires-2 c κs = search needs
+read-four-requires-3 : tie.Need-read-four-requires-3
+read-four-requires-3 c κs = search needs
 
-enum-known-b-2 : tie.Need-enum-known-b-2
-enum-known-b-2 c = search needs
+enum-known-x1-2 : tie.Need-enum-known-x1-2
+enum-known-x1-2 c = search needs
 
 enum-told-4 : tie.Need-enum-told-4
 enum-told-4 c = search needs
@@ -137,8 +137,8 @@ enum-told-4 c = search needs
 returns-7 : tie.Need-returns-7
 unfolding read♯
 returns-7 c =
-    let at-read-box2 = c .before .before in
-    let at-if4 = at-read-box2 .before in
+    let at-read-four3 = c .before .before in
+    let at-if4 = at-read-four3 .before in
     let at-if3 = at-if4 .before in
     let at-if2 = at-if3 .before in
     let at-if1 = at-if2 .before in
@@ -149,15 +149,15 @@ returns-7 c =
       ne-eqb _ 68 (at-if2 .if2 .left),
       ne-eqb _ 67 (at-if3 .if3 .left),
       eq-eqb _ 76 (at-if4 .if4 .taken),
-      ← at-read-box2 .read-box2 .ensures,
+      ← at-read-four3 .read-four3 .ensures,
       c .enum-told4 .given .1,
     )
 
 returns-8 : tie.Need-returns-8
 unfolding read♯
 returns-8 c =
-    let at-read-box2 = c .before .before .before in
-    let at-if4 = at-read-box2 .before in
+    let at-read-four3 = c .before .before .before in
+    let at-if4 = at-read-four3 .before in
     let at-if3 = at-if4 .before in
     let at-if2 = at-if3 .before in
     let at-if1 = at-if2 .before in
@@ -168,8 +168,8 @@ returns-8 c =
       ne-eqb _ 68 (at-if2 .if2 .left),
       ne-eqb _ 67 (at-if3 .if3 .left),
       eq-eqb _ 76 (at-if4 .if4 .taken),
-      ← at-read-box2 .read-box2 .ensures,
-      c .before .b2 .given .1,
+      ← at-read-four3 .read-four3 .ensures,
+      c .before .x12 .given .1,
     )
 
 returns-9 : tie.Need-returns-9
@@ -191,23 +191,23 @@ parse-spec =
     tie.close
     (tie.spec
     byte-requires
-    read-mark-requires
-    enum-known-m
+    read-four-requires
+    enum-known-x
     enum-told
     returns
     returns-2
-    read-mark-requires-2
-    enum-known-m-2
+    read-three-requires
+    enum-known-x-2
     enum-told-2
     returns-3
     returns-4
-    read-box-requires
-    enum-known-b
+    read-four-requires-2
+    enum-known-x1
     enum-told-3
     returns-5
     returns-6
-    read-box-requires-2
-    enum-known-b-2
+    read-four-requires-3
+    enum-known-x1-2
     enum-told-4
     returns-7
     returns-8

@@ -22,7 +22,10 @@ returns : tie.Need-returns
 returns c =
     let at-put-number = c .before .before in
     let at-put-byte = at-put-number .before .before .before .before in
-    wrote-then (at-put-byte .put-byte .ensures) (at-put-number .put-number .ensures)
+    let start = at-put-byte .before .before .before in
+    let byte = at-put-byte .put-byte .ensures in
+    let number = at-put-number .put-number .ensures in
+    (omega (arith, byte .next, number .next, digits-short (start .args .n) (omega arith)), wrote-then byte number)
 
 pub put-field-spec : {M : Type 1} → statement M
 put-field-spec = tie.close (tie.spec put-byte-requires put-number-requires same-length returns)

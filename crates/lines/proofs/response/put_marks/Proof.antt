@@ -1,21 +1,20 @@
--- `put_marks` meets its contract. The loop keeps: the lines of the first i marks are written, at most 33 bytes each. What falls: k - i. Assumes nothing.
+-- `put_marks` meets its contract. The loop keeps: the lines of the first i marks are written, at most 44 bytes each. What falls: k - i. Assumes nothing.
 use Prim.Native.Nat.{_+_, _-_, _*_, _≤_}
 use mathlib.Core.Path.{_≡_, refl, _∙_}
 use native.Mathlib.Omega.{arith}
 use lib.ListN.{length}
 use borrow.Author.Needs.{needs}
-use Rattle.geometry.specs.Values.{markValue}
 use Rattle.table.specs.Marks.{listMarks}
 use Rattle.lines.specs.Responses.{markLines}
 use Rattle.lines.specs.Writing.{Wrote}
-use Rattle.lines.proofs.Responses.{markLines-more, mark-short}
+use Rattle.lines.proofs.Responses.{markLines-more}
 use Rattle.lines.proofs.Writing.{wrote-nothing, wrote-then}
 use Rattle.lines.proofs.response.put_marks.Statement.{statement}
 use Rattle.lines.proofs.response.put_marks.Tie as tie
 
 abbrev Inv-loop : tie.InvT-loop
 Inv-loop out₀ at list k next₀ i₀ out next i =
-    (i ≤ k) × (next ≤ at + 33 * i) × (length out ≡ length out₀) × Wrote out₀ at (markLines (listMarks list 0 i)) next out
+    (i ≤ k) × (next ≤ at + 44 * i) × (length out ≡ length out₀) × Wrote out₀ at (markLines (listMarks list 0 i)) next out
 
 abbrev μ-loop : tie.MeasureT-loop
 μ-loop out₀ at list k next₀ i₀ out next i = k - i
@@ -49,12 +48,11 @@ loop-again c =
     let list = at-start .args .list .now in
     let more = at-loop-test .loop-test .taken in
     let m = at-listed .listed in
-    let done = at-put-mark .put-mark in
-    let short = mark-short (markValue (m .result)) (omega (arith, m .ok)) (omega (arith, m .ok)) (omega (arith, m .ok)) in (
+    let done = at-put-mark .put-mark in (
       omega (arith, more),
-      omega (arith, at .inv .1, done .ensures .next, short),
+      omega (arith, at .inv .1, done .ensures .0),
       done .kept .0 ∙ at .inv .2,
-      rw (← markLines-more list (at .i), ← m .ensures) (wrote-then (at .inv .3) (done .ensures)),
+      rw (← markLines-more list (at .i), ← m .ensures) (wrote-then (at .inv .3) (done .ensures .1)),
     )
 
 same-length : tie.Need-same-length Inv-loop μ-loop

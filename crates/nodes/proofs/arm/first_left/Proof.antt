@@ -1,8 +1,6 @@
 use Rattle.nodes.proofs.arm.first_left.Statement.{statement}
 use Rattle.nodes.specs.Arms.{firstLeft}
 use Rattle.nodes.proofs.arm.first_left.Tie as tie
-use Rattle.nodes.proofs.arm.first_left.Reads as reads
-use Rattle.nodes.proofs.arm.first_left.Lts as lts
 
 -- src/arm.rt:54:1
 returns : tie.Need-returns

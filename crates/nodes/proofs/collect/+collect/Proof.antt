@@ -1,4 +1,5 @@
--- The loop keeps: length of t is that of t₀; left ≤ fuel; collect♯ of left, rest, at, got, t is that of fuel, rest₀, at₀, got₀, t₀. What falls: left.
+-- The loop keeps: length of t is that of t₀; left ≤ fuel; collect♯ of left, rest, at, got, t is that of fuel, rest₀, at₀, got₀, t₀.
+-- What falls: left.
 use Prim.Native.Nat.{ℕ, _<_, _≤_}
 use borrow.Fn.Kinds.{In}
 use borrow.Fn.PlainCycle.{Measures, is, falls, and}

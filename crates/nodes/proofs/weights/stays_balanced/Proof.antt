@@ -1,10 +1,6 @@
 use borrow.Author.Needs.{needs}
 use Rattle.nodes.proofs.weights.stays_balanced.Statement.{statement}
 use Rattle.nodes.proofs.weights.stays_balanced.Tie as tie
-use Rattle.nodes.proofs.weights.stays_balanced.Reads as reads
-use Rattle.nodes.proofs.weights.stays_balanced.Lts as lts
-use Rattle.nodes.proofs.weights.fewer.Reads as fewer-reads
-use Rattle.nodes.proofs.weights.is_heavy.Reads as is-heavy-reads
 
 -- src/weights.rt:54:14
 fewer-requires : tie.Need-fewer-requires

@@ -2,8 +2,6 @@ use borrow.Author.Needs.{needs}
 use Rattle.nodes.proofs.weights.unbalances.Statement.{statement}
 use Rattle.nodes.specs.Weights.{unbalances}
 use Rattle.nodes.proofs.weights.unbalances.Tie as tie
-use Rattle.nodes.proofs.weights.unbalances.Reads as reads
-use Rattle.nodes.proofs.weights.unbalances.Lts as lts
 
 -- src/weights.rt:62:16
 mul-result : tie.Need-mul-result

@@ -2,11 +2,6 @@ use borrow.Author.Needs.{needs}
 use Rattle.primary_insert.proofs.insert.grow.Statement.{statement}
 use Rattle.primary_insert.specs.Insert.{grow♯}
 use Rattle.primary_insert.proofs.insert.grow.Tie as tie
-use Rattle.primary_insert.proofs.insert.grow.Reads as reads
-use Rattle.primary_insert.proofs.insert.grow.Lts as lts
-use Rattle.nodes.proofs.primary.PrimaryArm.grown.Reads as grown-reads
-use Rattle.nodes.proofs.primary.PrimaryArm.store.Reads as store-reads
-use Rattle.secondary_update.proofs.insert.insert.Reads as insert-reads
 
 -- src/insert.rt:56:30
 grown-requires : tie.Need-grown-requires

@@ -13,10 +13,11 @@ use borrow.Author.Needs.{needs}
 use Rattle.table.proofs.Fuel.{positive, nothing}
 use Rattle.primary_insert.proofs.Steps.{child-there}
 use Rattle.primary_insert.proofs.insert.insert_beneath.Tie as tie
+use Rattle.table.specs.Layout.{armWidth}
 
 abbrev Inv-loop : tie.InvT-loop
 Inv-loop t₀ level capacity start m s fuel base₀ at₀ left₀ t base at left =
-    (length t ≡ length t₀) × (at < 2 ^ 40) × (at + 4 ≤ length t₀)
+    (length t ≡ length t₀) × (at < 2 ^ 40) × (at + armWidth ≤ length t₀)
     × (insertBeneath♯ left capacity (markValue m) s base at t ≡ insertBeneath♯ fuel capacity (markValue m) s base₀ at₀ t₀)
 
 abbrev μ-loop : tie.MeasureT-loop

@@ -8,7 +8,7 @@ use mathlib.Core.Bool.{false}
 use lib.ListN.{length}
 use Rattle.model.specs.Sheet.{alongX}
 use Rattle.geometry.specs.Values.{markValue}
-use Rattle.table.specs.Layout.{mainPlace}
+use Rattle.table.specs.Layout.{armWidth, mainPlace}
 use Rattle.table.specs.Limits.{deepest}
 use Rattle.secondary_update.specs.Insert.{insertArm, insertChild, insertNode, insertWay, insert♯, insert♯-suc, insert♯-zero}
 use Rattle.nodes.specs.Weights.{unbalances}
@@ -20,7 +20,7 @@ use Rattle.primary_insert.proofs.main_tree.put.Tie as tie
 
 abbrev Inv-loop : tie.InvT-loop
 Inv-loop t₀ capacity start m s at₀ left₀ t at left =
-    (length t ≡ length t₀) × (at < 2 ^ 40) × (at + 4 ≤ length t₀)
+    (length t ≡ length t₀) × (at < 2 ^ 40) × (at + armWidth ≤ length t₀)
     × (insert♯ alongX left capacity mainPlace (markValue m) s false at t ≡ insert♯ alongX deepest capacity mainPlace (markValue m) s false at₀ t₀)
 
 abbrev μ-loop : tie.MeasureT-loop

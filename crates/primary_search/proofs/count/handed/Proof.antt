@@ -1,4 +1,4 @@
-use Rattle.primary_search.proofs.Counting.{hand-over-by-y}
+use Rattle.primary_search.proofs.Counting.{hand-over-by-y, level-whole}
 use borrow.Author.Needs.{needs}
 use Rattle.primary_search.proofs.count.handed.Statement.{statement}
 use Rattle.primary_search.specs.Count.{handed♯}
@@ -42,18 +42,22 @@ returns-2 c =
     )
 
 -- src/count.rt:67:11
+level-end-requires : tie.Need-level-end-requires
+level-end-requires c κs = search needs
+
 hand-over-requires : tie.Need-hand-over-requires
-hand-over-requires c κs = search needs
+hand-over-requires c κs = (search needs, level-whole _ _ _ (c .level-end .ensures))
 
 -- src/count.rt:56:1
 returns-3 : tie.Need-returns-3
 unfolding handed♯
 returns-3 c =
-    let at-is-leaf = c .before .before in
+    let at-if2 = c .before .before in
+    let at-is-leaf = at-if2 .before in
     let at-if1 = at-is-leaf .before in
     let at-slot = at-if1 .before in
-    rw (← at-slot .slot .ensures, lt-leb _ _ (at-if1 .if1 .left), ← at-is-leaf .is-leaf .ensures, c .before .if2 .left)
-    (hand-over-by-y _ _ _ _ _ _ _ (c .hand-over .ensures))
+    rw (← at-slot .slot .ensures, lt-leb _ _ (at-if1 .if1 .left), ← at-is-leaf .is-leaf .ensures, at-if2 .if2 .left)
+    (hand-over-by-y _ _ _ _ _ _ _ _ (c .before .level-end .ensures) (c .hand-over .ensures))
 
 pub handed-spec : {M : Type 1} → statement M
 handed-spec =
@@ -65,5 +69,6 @@ handed-spec =
     is-leaf-requires
     leaf-requires
     returns-2
+    level-end-requires
     hand-over-requires
     returns-3)

@@ -1,4 +1,4 @@
-use Rattle.primary_search.proofs.Counting.{hand-over-by-y}
+use Rattle.primary_search.proofs.Counting.{hand-over-by-y, level-whole}
 use Rattle.nodes.specs.Count.{countTree}
 use Rattle.primary_search.proofs.count.search.Statement.{statement}
 use borrow.Author.Tests.{le-leb, lt-leb}
@@ -53,14 +53,18 @@ inside-x-requires : tie.Need-inside-x-requires
 inside-x-requires c κs = search needs
 
 -- src/count.rt:224:22
+level-end-requires : tie.Need-level-end-requires
+level-end-requires c κs = search needs
+
 hand-over-requires : tie.Need-hand-over-requires
-hand-over-requires c κs = search needs
+hand-over-requires c κs = (search needs, level-whole _ _ _ (c .level-end .ensures))
 
 -- src/count.rt:224:9
 returns-3 : tie.Need-returns-3
 unfolding mainSearch♯ countTree handed♯
 returns-3 c =
-    let at-inside-x = c .before .before in
+    let at-if3 = c .before .before in
+    let at-inside-x = at-if3 .before in
     let at-if2 = at-inside-x .before in
     let at-is-leaf = at-if2 .before in
     let at-if1 = at-is-leaf .before in
@@ -71,9 +75,9 @@ returns-3 c =
       ← at-is-leaf .is-leaf .ensures,
       at-if2 .if2 .left,
       ← at-inside-x .inside-x .ensures,
-      c .before .if3 .taken,
+      at-if3 .if3 .taken,
     )
-    (hand-over-by-y _ _ _ _ _ _ _ (c .hand-over .ensures))
+    (hand-over-by-y _ _ _ _ _ _ _ _ (c .before .level-end .ensures) (c .hand-over .ensures))
 
 -- src/count.rt:226:8
 before-x-requires : tie.Need-before-x-requires
@@ -208,6 +212,7 @@ search-spec =
     leaf-requires
     returns-2
     inside-x-requires
+    level-end-requires
     hand-over-requires
     returns-3
     before-x-requires

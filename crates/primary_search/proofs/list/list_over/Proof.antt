@@ -2,12 +2,6 @@ use borrow.Author.Needs.{needs}
 use Rattle.primary_search.proofs.list.list_over.Statement.{statement}
 use Rattle.primary_search.specs.List.{listOver♯}
 use Rattle.primary_search.proofs.list.list_over.Tie as tie
-use Rattle.primary_search.proofs.list.list_over.Reads as reads
-use Rattle.primary_search.proofs.list.list_over.Lts as lts
-use Rattle.nodes.proofs.primary.PrimaryRecord.load_auxiliary.Reads as load-auxiliary-reads
-use Rattle.nodes.proofs.secondary.SecondaryRecord.lacks_level.Reads as lacks-level-reads
-use Rattle.secondary_search.proofs.list.list.Reads as list-reads
-use Rattle.table.proofs.tally.Tally.lost.Reads as lost-reads
 
 -- src/list.rt:47:8
 lacks-level-requires : tie.Need-lacks-level-requires

@@ -4,9 +4,6 @@ use borrow.Author.Needs.{needs}
 use Rattle.primary_search.proofs.list.stops.Statement.{statement}
 use Rattle.primary_search.specs.List.{stops}
 use Rattle.primary_search.proofs.list.stops.Tie as tie
-use Rattle.primary_search.proofs.list.stops.Reads as reads
-use Rattle.primary_search.proofs.list.stops.Lts as lts
-use Rattle.table.proofs.tally.Tally.visits.Reads as visits-reads
 
 -- src/list.rt:26:16
 visits-requires : tie.Need-visits-requires

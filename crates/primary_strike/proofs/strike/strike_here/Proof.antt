@@ -3,11 +3,6 @@ use Rattle.primary_strike.proofs.strike.strike_here.Statement.{statemen
 use borrow.Author.Tests.{eq-eqb, ne-eqb}
 use Rattle.primary_strike.specs.Strike.{mainStrikeHere}
 use Rattle.primary_strike.proofs.strike.strike_here.Tie as tie
-use Rattle.primary_strike.proofs.strike.strike_here.Reads as reads
-use Rattle.primary_strike.proofs.strike.strike_here.Lts as lts
-use Rattle.nodes.proofs.arm.first_left.Reads as first-left-reads
-use Rattle.primary_strike.proofs.strike.lifted.Reads as lifted-reads
-use Rattle.primary_strike.proofs.strike.strike_afresh.Reads as strike-afresh-reads
 
 -- src/strike.rt:165:51
 first-left-requires : tie.Need-first-left-requires

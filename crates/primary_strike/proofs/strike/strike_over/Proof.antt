@@ -4,12 +4,6 @@ use borrow.Author.Tests.{eq-eqb, ne-eqb}
 use Rattle.primary_strike.specs.Strike.{mainNodeOver}
 use Rattle.secondary_update.specs.Strike.{strikeOver}
 use Rattle.primary_strike.proofs.strike.strike_over.Tie as tie
-use Rattle.primary_strike.proofs.strike.strike_over.Reads as reads
-use Rattle.primary_strike.proofs.strike.strike_over.Lts as lts
-use Rattle.nodes.proofs.arm.renamed.Reads as renamed-reads
-use Rattle.nodes.proofs.weights.fewer.Reads as fewer-reads
-use Rattle.primary_strike.proofs.strike.damaged.Reads as damaged-reads
-use Rattle.primary_strike.proofs.strike.node_over.Reads as node-over-reads
 
 -- src/strike.rt:138:25
 fewer-requires : tie.Need-fewer-requires

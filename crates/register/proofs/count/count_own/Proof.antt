@@ -37,10 +37,22 @@ returns-2 c =
       lt-ltb _ _ (c .if2 .taken),
     )
 
+grades-requires : tie.Need-grades-requires
+grades-requires c κs = search needs
+
+sum-requires : tie.Need-sum-requires
+sum-requires c κs = search needs
+
+worst-requires : tie.Need-worst-requires
+worst-requires c κs = search needs
+
 returns-3 : tie.Need-returns-3
 unfolding countOwn♯ tallied
 returns-3 c =
-    let at-found = c .before in
+    let at-sum = c .before in
+    let at-grades = at-sum .before in
+    let at-if2 = at-grades .before in
+    let at-found = at-if2 .before in
     let at-if1 = at-found .before in
     let at-visits = at-if1 .before in
     let at-count = at-visits .before in
@@ -50,9 +62,22 @@ returns-3 c =
       le-ltb _ _ (at-if1 .if1 .left),
       ← at-found .found .ensures,
       ← at-count .before .before .pre .1,
-      le-ltb _ _ (c .if2 .left),
+      le-ltb _ _ (at-if2 .if2 .left),
+      ← at-grades .grades .ensures,
+      ← at-sum .sum .ensures,
+      ← c .worst .ensures,
     )
 
 pub count-own-spec : {M : Type 1} → statement M
 count-own-spec =
-    tie.close (tie.spec count-requires visits-requires returns found-requires returns-2 returns-3)
+    tie.close
+    (tie.spec
+    count-requires
+    visits-requires
+    returns
+    found-requires
+    returns-2
+    grades-requires
+    sum-requires
+    worst-requires
+    returns-3)

@@ -1,4 +1,4 @@
-use Rattle.register.proofs.Branches.{find-read}
+use Rattle.register.proofs.Branches.{find-read, slot-read}
 use borrow.Author.Needs.{needs}
 use Rattle.register.proofs.strike.strike_own.Statement.{statement}
 use borrow.Author.Tests.{eq-eqb, ne-eqb}
@@ -42,7 +42,12 @@ returns-2 c =
 
 -- src/strike.rt:35:9
 strike-requires : tie.Need-strike-requires
-strike-requires c κs = search needs
+strike-requires c κs =
+    let at-if2 = c .before in
+    let at-if1 = at-if2 .before in
+    let at-find = at-if1 .before in
+    let at-start = at-find .before .before .before in
+    (at-start .pre, slot-read _ _ (at-start .pre .0) _ _ (at-find .find .ensures) (at-if1 .if1 .left) (at-if2 .if2 .left))
 
 -- src/strike.rt:36:5
 settle-requires : tie.Need-settle-requires

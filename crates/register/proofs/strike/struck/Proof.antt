@@ -1,91 +1,75 @@
+-- `struck` meets its contract: a branch for each row, and the strike from the table's own words. Assumes nothing.
+use Rattle.model.specs.Refusals.{nameMark}
 use Rattle.register.specs.Mirrors.{strike♯, strikeOwn♯}
-use mathlib.Core.Path.{sym, ap, _∙_}
 use native.Mathlib.Omega.{arith}
-use Rattle.geometry.specs.Values.{markOutcome}
 use Rattle.register.proofs.Own.{own-fits, part-capacity}
-use Rattle.register.proofs.Branches.{update-not-table, update-outside, update-own}
+use Rattle.register.proofs.Branches.{update-not-table, update-refused, update-own}
 use borrow.Author.Needs.{needs}
 use Rattle.register.proofs.strike.struck.Statement.{statement}
 use Rattle.register.proofs.strike.struck.Tie as tie
 
--- src/strike.rt:36:9
 own-requires : tie.Need-own-requires
 own-requires c κs = search needs
 
--- src/strike.rt:38:9
 same-length : tie.Need-same-length
 same-length c = search needs
 
--- src/strike.rt:38:9
 returns : tie.Need-returns
 unfolding strike♯
-returns c = update-not-table _ _ (c .before .own .ensures .0 .0) strikeOwn♯ _ (c .if1 .taken)
+returns c = update-not-table _ _ (c .before .own .ensures .0 .0) _ strikeOwn♯ (c .if1 .taken)
 
--- src/strike.rt:40:11
-new-requires : tie.Need-new-requires
-new-requires c κs = search needs
+named-requires : tie.Need-named-requires
+named-requires c κs = search needs
 
--- src/strike.rt:41:29
-enum-told : tie.Need-enum-told
-enum-told c = search needs
+is-outside-requires : tie.Need-is-outside-requires
+is-outside-requires c κs = search needs
 
--- src/strike.rt:42:24
-enum-known-m : tie.Need-enum-known-m
-enum-known-m c = search needs
+same-length-2 : tie.Need-same-length-2
+same-length-2 c = search needs
 
--- src/strike.rt:42:41
+returns-2 : tie.Need-returns-2
+unfolding strike♯ nameMark
+returns-2 c =
+    let at-outside = c .before in
+    let at-named = at-outside .before in
+    let at-if1 = at-named .before in
+    let at-own = at-if1 .before in
+    update-refused _ _ (at-own .own .ensures .0 .0) _ strikeOwn♯ (at-if1 .if1 .left) 5
+    (rw (← at-named .named .ensures, ← at-outside .is-outside .ensures, c .if2 .taken))
+
 sub-strike-own : tie.Need-sub-strike-own
 sub-strike-own c = search needs
 
--- src/strike.rt:42:41
 part-strike-own-start : tie.Need-part-strike-own-start
 part-strike-own-start c = search needs
 
--- src/strike.rt:42:41
 part-strike-own-end : tie.Need-part-strike-own-end
 part-strike-own-end c =
-    let at-own = c .before .before .before .before .before in
+    let at-own = c .before .before .before .before in
     let at-start = at-own .before .before .before in
     omega (arith, at-own .own .ensures .0 .0, own-fits (at-start .args .table .now))
 
--- src/strike.rt:42:30
 strike-own-requires : tie.Need-strike-own-requires
 strike-own-requires c κs =
-    let at-m = c .before .before in
-    let at-if1 = at-m .before .before .before in
+    let at-if1 = c .before .before .before .before in
     let at-own = at-if1 .before in
     let at-start = at-own .before .before .before in
     part-capacity (at-start .args .table .now) _ (at-own .own .ensures .0 .0) (at-if1 .if1 .left) _ (at-own .own .ensures .1 (at-if1 .if1 .left) .0)
 
--- src/strike.rt:33:1
-same-length-2 : tie.Need-same-length-2
-same-length-2 c = search needs
-
--- src/strike.rt:33:1
-returns-2 : tie.Need-returns-2
-unfolding strike♯
-returns-2 c =
-    let at-new = c .before .before in
-    let at-if1 = at-new .before in
-    let at-own = at-if1 .before in
-    update-outside _ _ (at-own .own .ensures .0 .0) strikeOwn♯ _ (at-if1 .if1 .left) 5
-    (sym (at-new .new .ensures) ∙ ap markOutcome (c .enum-told .given .1))
-
--- src/strike.rt:33:1
 same-length-3 : tie.Need-same-length-3
 same-length-3 c = search needs
 
--- src/strike.rt:33:1
 returns-3 : tie.Need-returns-3
-unfolding strike♯
+unfolding strike♯ nameMark
 returns-3 c =
     let at-strike-own = c .before .before in
-    let at-m = at-strike-own .before .before .before in
-    let at-new = at-m .before .before in
-    let at-if1 = at-new .before in
+    let at-if2 = at-strike-own .before .before in
+    let at-outside = at-if2 .before in
+    let at-named = at-outside .before in
+    let at-if1 = at-named .before in
     let at-own = at-if1 .before in
-    update-own _ _ (at-own .own .ensures .0 .0) strikeOwn♯ _ (at-if1 .if1 .left) _
-    (sym (at-new .new .ensures) ∙ ap markOutcome (at-m .m .given .1)) _ _ (at-strike-own .strike-own .ensures)
+    update-own _ _ (at-own .own .ensures .0 .0) _ strikeOwn♯ (at-if1 .if1 .left) _
+    (rw (← at-named .named .ensures, ← at-outside .is-outside .ensures, at-if2 .if2 .left)) _ _ (at-strike-own .strike-own .ensures)
 
 pub struck-spec : {M : Type 1} → statement M
 struck-spec =
@@ -94,14 +78,13 @@ struck-spec =
     own-requires
     same-length
     returns
-    new-requires
-    enum-told
-    enum-known-m
+    named-requires
+    is-outside-requires
+    same-length-2
+    returns-2
     sub-strike-own
     part-strike-own-start
     part-strike-own-end
     strike-own-requires
-    same-length-2
-    returns-2
     same-length-3
     returns-3)

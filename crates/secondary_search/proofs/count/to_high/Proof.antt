@@ -9,18 +9,18 @@ use Rattle.geometry.specs.Values.{boxValue}
 use Rattle.table.specs.Limits.{deepest}
 use Rattle.nodes.specs.Count.{sideAlong, highRecord, highNode, highFrom, highFrom-zero, highFrom-suc}
 use Rattle.table.proofs.Fuel.{positive, nothing}
-use Rattle.secondary_search.specs.Count.{auxiliaryKind}
-use borrow.Author.Tests.{le-leb, lt-leb}
+use Rattle.secondary_search.specs.Count.{auxiliaryKind, records}
+use Rattle.secondary_search.proofs.Lent.{past-end, before-end, record-there}
 use Rattle.secondary_search.proofs.count.to_high.Tie as tie
 
 abbrev Inv-loop : tie.InvT-loop
-Inv-loop t base capacity b node₀ tally₀ left₀ node tally left =
+Inv-loop t b node₀ tally₀ left₀ node tally left =
     (left ≤ deepest) ×
-    (highFrom auxiliaryKind (sideAlong alongY (boxValue b)) capacity t left base (node .0) (tally .0) ≡
-    highFrom auxiliaryKind (sideAlong alongY (boxValue b)) capacity t deepest base (node₀ .0) (tally₀ .0))
+    (highFrom auxiliaryKind (sideAlong alongY (boxValue b)) (records t) t left 0 (node .0) (tally .0) ≡
+    highFrom auxiliaryKind (sideAlong alongY (boxValue b)) (records t) t deepest 0 (node₀ .0) (tally₀ .0))
 
 abbrev μ-loop : tie.MeasureT-loop
-μ-loop t base capacity b node₀ tally₀ left₀ node tally left = left
+μ-loop t b node₀ tally₀ left₀ node tally left = left
 
 -- src/count.rt:60:5
 loop-holds : tie.Need-loop-holds Inv-loop μ-loop
@@ -31,8 +31,8 @@ sub-left : tie.Need-sub-left Inv-loop μ-loop
 sub-left c = search needs
 
 -- src/count.rt:62:13
-slot-requires : tie.Need-slot-requires Inv-loop μ-loop
-slot-requires c κs = search needs
+place-requires : tie.Need-place-requires Inv-loop μ-loop
+place-requires c κs = search needs
 
 -- src/count.rt:64:13
 lost-requires : tie.Need-lost-requires Inv-loop μ-loop
@@ -42,20 +42,22 @@ lost-requires c κs = search needs
 returns : tie.Need-returns Inv-loop μ-loop
 unfolding highNode highRecord
 returns c =
-    let at-slot = c .before .before in
-    let at-loop-test = at-slot .before in
+    let at-place = c .before .before in
+    let at-loop-test = at-place .before in
     let at-loop = at-loop-test .before in
     rw (
       ← at-loop .loop .inv .1,
       highFrom-suc auxiliaryKind _ _ _ _ (positive _ (at-loop-test .loop-test .taken)),
-      ← at-slot .slot .ensures,
-      le-leb _ _ (c .before .if1 .taken),
+      past-end _ _ _ (at-loop .before .before .pre) (at-place .place .ensures) (c .before .if1 .taken),
       ← c .lost .ensures,
     )
 
 -- src/count.rt:66:13
-load-requires : tie.Need-load-requires Inv-loop μ-loop
-load-requires c κs = search (needs, c .if1 .left)
+read-requires : tie.Need-read-requires Inv-loop μ-loop
+read-requires c κs =
+    let at-place = c .before in
+    let at-start = at-place .before .before .before .before in
+    record-there (at-start .args .t .now) _ _ (at-start .pre) (at-place .place .ensures) (c .if1 .left)
 
 -- src/count.rt:71:12
 past-y-requires : tie.Need-past-y-requires Inv-loop μ-loop
@@ -85,18 +87,18 @@ loop-again c =
     let at-past = at-past-y2 .before in
     let at-if2 = at-past .before in
     let at-past-y = at-if2 .before in
-    let at-load = at-past-y .before .before .before .before .before in
-    let at-if1 = at-load .before in
-    let at-slot = at-if1 .before in
-    let at-loop-test = at-slot .before in
+    let at-read = at-past-y .before .before .before .before .before in
+    let at-if1 = at-read .before in
+    let at-place = at-if1 .before in
+    let at-loop-test = at-place .before in
     let at-loop = at-loop-test .before in (
       omega (arith, at-loop .loop .inv .0),
       rw (
         ← at-loop .loop .inv .1,
         highFrom-suc auxiliaryKind _ _ _ _ (positive _ (at-loop-test .loop-test .taken)),
-        ← at-slot .slot .ensures,
-        lt-leb _ _ (at-if1 .if1 .left),
-        ← at-load .load .ensures,
+        before-end _ _ _ (at-loop .before .before .pre) (at-place .place .ensures) (at-if1 .if1 .left),
+        ← at-place .place .ensures,
+        ← at-read .read .ensures,
         ← at-past-y .past-y .ensures,
         at-if2 .if2 .taken,
         ← at-past .past .ensures,
@@ -118,17 +120,17 @@ returns-2 c =
     let at-past = at-past-y2 .before in
     let at-if2 = at-past .before in
     let at-past-y = at-if2 .before in
-    let at-load = at-past-y .before .before .before .before .before in
-    let at-if1 = at-load .before in
-    let at-slot = at-if1 .before in
-    let at-loop-test = at-slot .before in
+    let at-read = at-past-y .before .before .before .before .before in
+    let at-if1 = at-read .before in
+    let at-place = at-if1 .before in
+    let at-loop-test = at-place .before in
     let at-loop = at-loop-test .before in
     rw (
       ← at-loop .loop .inv .1,
       highFrom-suc auxiliaryKind _ _ _ _ (positive _ (at-loop-test .loop-test .taken)),
-      ← at-slot .slot .ensures,
-      lt-leb _ _ (at-if1 .if1 .left),
-      ← at-load .load .ensures,
+      before-end _ _ _ (at-loop .before .before .pre) (at-place .place .ensures) (at-if1 .if1 .left),
+      ← at-place .place .ensures,
+      ← at-read .read .ensures,
       ← at-past-y .past-y .ensures,
       at-if2 .if2 .taken,
       ← at-past .past .ensures,
@@ -155,18 +157,18 @@ unfolding highNode highRecord
 loop-again-2 c =
     let at-if2 = c .before .before in
     let at-past-y = at-if2 .before in
-    let at-load = at-past-y .before .before .before .before .before in
-    let at-if1 = at-load .before in
-    let at-slot = at-if1 .before in
-    let at-loop-test = at-slot .before in
+    let at-read = at-past-y .before .before .before .before .before in
+    let at-if1 = at-read .before in
+    let at-place = at-if1 .before in
+    let at-loop-test = at-place .before in
     let at-loop = at-loop-test .before in (
       omega (arith, at-loop .loop .inv .0),
       rw (
         ← at-loop .loop .inv .1,
         highFrom-suc auxiliaryKind _ _ _ _ (positive _ (at-loop-test .loop-test .taken)),
-        ← at-slot .slot .ensures,
-        lt-leb _ _ (at-if1 .if1 .left),
-        ← at-load .load .ensures,
+        before-end _ _ _ (at-loop .before .before .pre) (at-place .place .ensures) (at-if1 .if1 .left),
+        ← at-place .place .ensures,
+        ← at-read .read .ensures,
         ← at-past-y .past-y .ensures,
         at-if2 .if2 .left,
         ← c .before .take2 .ensures,
@@ -195,10 +197,10 @@ to-high-spec =
     μ-loop
     loop-holds
     sub-left
-    slot-requires
+    place-requires
     lost-requires
     returns
-    load-requires
+    read-requires
     past-y-requires
     past-requires
     past-y-requires-2

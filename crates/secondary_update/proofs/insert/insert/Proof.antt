@@ -3,11 +3,6 @@ use Rattle.secondary_update.proofs.insert.insert.Statement.{statement}
 use native.Mathlib.Omega.{arith}
 use Rattle.secondary_update.specs.Insert.{auxiliaryInsert♯}
 use Rattle.secondary_update.proofs.insert.insert.Tie as tie
-use Rattle.secondary_update.proofs.insert.insert.Reads as reads
-use Rattle.secondary_update.proofs.insert.insert.Lts as lts
-use Rattle.nodes.proofs.primary.PrimaryRecord.auxiliary_place.Reads as auxiliary-place-reads
-use Rattle.nodes.proofs.secondary.SecondaryRecord.lacks_level.Reads as lacks-level-reads
-use Rattle.secondary_update.proofs.insert.insert_beneath.Reads as insert-beneath-reads
 
 -- src/insert.rt:112:8
 lacks-level-requires : tie.Need-lacks-level-requires

@@ -2,10 +2,6 @@ use borrow.Author.Needs.{needs}
 use Rattle.secondary_update.proofs.insert.insert_at_leaf.Statement.{statement}
 use Rattle.secondary_update.specs.Insert.{nodeAt, split♯}
 use Rattle.secondary_update.proofs.insert.insert_at_leaf.Tie as tie
-use Rattle.secondary_update.proofs.insert.insert_at_leaf.Reads as reads
-use Rattle.secondary_update.proofs.insert.insert_at_leaf.Lts as lts
-use Rattle.secondary_update.proofs.insert.afresh.Reads as afresh-reads
-use Rattle.secondary_update.proofs.insert.split.Reads as split-reads
 
 -- src/insert.rt:79:5
 split-requires : tie.Need-split-requires

@@ -9,7 +9,7 @@ use mathlib.Core.Bool.{true}
 use lib.ListN.{length}
 use Rattle.model.specs.Sheet.{alongY}
 use Rattle.geometry.specs.Values.{markValue}
-use Rattle.table.specs.Layout.{recordPlace}
+use Rattle.table.specs.Layout.{armWidth, recordPlace}
 use Rattle.table.specs.Limits.{deepest}
 use borrow.Author.Needs.{needs}
 use borrow.Author.Tests.{le-leb, lt-leb}
@@ -20,7 +20,7 @@ use Rattle.secondary_update.proofs.insert.insert_beneath.Tie as tie
 
 abbrev Inv-loop : tie.InvT-loop
 Inv-loop t₀ base capacity start m s at₀ mends₀ top₀ left₀ t at mends top left =
-    (length t ≡ length t₀) × (at < 2 ^ 40) × (at + 4 ≤ length t₀) × (top + 4 ≤ length t₀)
+    (length t ≡ length t₀) × (at < 2 ^ 40) × (at + armWidth ≤ length t₀) × (top + armWidth ≤ length t₀)
     × (ended base capacity mends top (insert♯ alongY left capacity (recordPlace base) (markValue m) s mends at t)
     ≡ insert♯ alongY deepest capacity (recordPlace base) (markValue m) s true at₀ t₀)
 

@@ -2,11 +2,6 @@ use borrow.Author.Needs.{needs}
 use Rattle.secondary_update.proofs.strike.node_over.Statement.{statement}
 use Rattle.secondary_update.specs.Strike.{nodeOver}
 use Rattle.secondary_update.proofs.strike.node_over.Tie as tie
-use Rattle.secondary_update.proofs.strike.node_over.Reads as reads
-use Rattle.secondary_update.proofs.strike.node_over.Lts as lts
-use Rattle.nodes.proofs.secondary.SecondaryArm.over.Reads as over-reads
-use Rattle.nodes.proofs.secondary.SecondaryRecord.store.Reads as store-reads
-use Rattle.secondary_update.proofs.strike.answer.Reads as answer-reads
 
 -- src/strike.rt:68:5
 store-requires : tie.Need-store-requires

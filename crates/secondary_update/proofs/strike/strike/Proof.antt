@@ -2,12 +2,6 @@ use borrow.Author.Needs.{needs}
 use Rattle.secondary_update.proofs.strike.strike.Statement.{statement}
 use Rattle.secondary_update.specs.Strike.{auxiliaryStrike♯, strikeFrom}
 use Rattle.secondary_update.proofs.strike.strike.Tie as tie
-use Rattle.secondary_update.proofs.strike.strike.Reads as reads
-use Rattle.secondary_update.proofs.strike.strike.Lts as lts
-use Rattle.nodes.proofs.primary.PrimaryRecord.load_auxiliary.Reads as load-auxiliary-reads
-use Rattle.nodes.proofs.secondary.SecondaryRecord.lacks_level.Reads as lacks-level-reads
-use Rattle.secondary_update.proofs.strike.damaged.Reads as damaged-reads
-use Rattle.secondary_update.proofs.strike.strike_beneath.Reads as strike-beneath-reads
 
 -- src/strike.rt:160:8
 lacks-level-requires : tie.Need-lacks-level-requires

@@ -3,11 +3,6 @@ use Rattle.secondary_update.proofs.strike.strike_here.Statement.{statem
 use borrow.Author.Tests.{eq-eqb, ne-eqb}
 use Rattle.secondary_update.specs.Strike.{strikeHere}
 use Rattle.secondary_update.proofs.strike.strike_here.Tie as tie
-use Rattle.secondary_update.proofs.strike.strike_here.Reads as reads
-use Rattle.secondary_update.proofs.strike.strike_here.Lts as lts
-use Rattle.nodes.proofs.arm.first_left.Reads as first-left-reads
-use Rattle.secondary_update.proofs.strike.answer.Reads as answer-reads
-use Rattle.secondary_update.proofs.strike.strike_afresh.Reads as strike-afresh-reads
 
 -- src/strike.rt:134:35
 first-left-requires : tie.Need-first-left-requires

@@ -3,12 +3,6 @@ use Rattle.secondary_update.proofs.strike.strike_over.Statement.{statem
 use borrow.Author.Tests.{eq-eqb, ne-eqb}
 use Rattle.secondary_update.specs.Strike.{nodeOver, strikeOver}
 use Rattle.secondary_update.proofs.strike.strike_over.Tie as tie
-use Rattle.secondary_update.proofs.strike.strike_over.Reads as reads
-use Rattle.secondary_update.proofs.strike.strike_over.Lts as lts
-use Rattle.nodes.proofs.arm.renamed.Reads as renamed-reads
-use Rattle.nodes.proofs.weights.fewer.Reads as fewer-reads
-use Rattle.secondary_update.proofs.strike.damaged.Reads as damaged-reads
-use Rattle.secondary_update.proofs.strike.node_over.Reads as node-over-reads
 
 -- src/strike.rt:88:25
 fewer-requires : tie.Need-fewer-requires

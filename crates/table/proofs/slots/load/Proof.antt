@@ -3,19 +3,19 @@ use Rattle.table.proofs.slots.load.Statement.{statement}
 use Rattle.table.specs.Marks.{slotMark}
 use Rattle.table.proofs.slots.load.Tie as tie
 
--- src/slots.rt:37:30
+-- src/slots.rt:39:30
 mul-read : tie.Need-mul-read
 mul-read c = search needs
 
--- src/slots.rt:37:13
+-- src/slots.rt:39:13
 add-read : tie.Need-add-read
 add-read c = search needs
 
--- src/slots.rt:37:5
+-- src/slots.rt:39:5
 read-requires : tie.Need-read-requires
 read-requires c κs = search needs
 
--- src/slots.rt:33:1
+-- src/slots.rt:35:1
 returns : tie.Need-returns
 unfolding slotMark
 returns c = rw (← c .read .ensures)

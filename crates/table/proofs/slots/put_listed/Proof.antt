@@ -4,27 +4,27 @@ use borrow.Author.Tests.{lt-leb}
 use Rattle.table.specs.Marks.{putMark}
 use Rattle.table.proofs.slots.put_listed.Tie as tie
 
--- src/slots.rt:63:14
+-- src/slots.rt:70:14
 mul-at : tie.Need-mul-at
 mul-at c = search needs
 
--- src/slots.rt:64:8
+-- src/slots.rt:71:8
 add-if1 : tie.Need-add-if1
 add-if1 c = search needs
 
--- src/slots.rt:65:9
+-- src/slots.rt:72:9
 write-requires : tie.Need-write-requires
 write-requires c κs = search needs
 
--- src/slots.rt:60:1
+-- src/slots.rt:67:1
 same-length : tie.Need-same-length
 same-length c = search needs
 
--- src/slots.rt:60:1
+-- src/slots.rt:67:1
 returns : tie.Need-returns
 returns c = search needs
 
--- src/slots.rt:60:1
+-- src/slots.rt:67:1
 returns-2 : tie.Need-returns-2
 unfolding putMark
 returns-2 c = rw (lt-leb _ _ (c .if1 .left))

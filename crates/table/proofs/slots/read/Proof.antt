@@ -1,6 +1,5 @@
--- The three words are the mirror's, which finds them there.
-use borrow.Author.Tests.{le-leb}
 use Rattle.table.specs.Marks.{markAt}
+use borrow.Author.Tests.{le-leb}
 use borrow.Author.Needs.{needs}
 use Rattle.table.proofs.slots.read.Statement.{statement}
 use Rattle.table.proofs.slots.read.Tie as tie
@@ -37,10 +36,22 @@ mul-t11 c = search needs
 shared-slice-read-t13 : tie.Need-shared-slice-read-t13
 shared-slice-read-t13 c = search needs
 
+-- src/slots.rt:20:18
+add-t14 : tie.Need-add-t14
+add-t14 c = search needs
+
+-- src/slots.rt:20:16
+mul-t15 : tie.Need-mul-t15
+mul-t15 c = search needs
+
+-- src/slots.rt:20:16
+shared-slice-read-t17 : tie.Need-shared-slice-read-t17
+shared-slice-read-t17 c = search needs
+
 -- src/slots.rt:12:1
 returns : tie.Need-returns
 unfolding markAt
-returns c = rw (le-leb _ _ (c .before .before .before .pre))
+returns c = rw (le-leb _ _ (c .before .before .before .before .pre))
 
 pub read-spec : {M : Type 1} → statement M
 read-spec =
@@ -54,4 +65,7 @@ read-spec =
     add-t10
     mul-t11
     shared-slice-read-t13
+    add-t14
+    mul-t15
+    shared-slice-read-t17
     returns)

@@ -1,57 +1,68 @@
-use Rattle.nodes.specs.Arms.{armAt}
-use mathlib.Core.Path.{refl}
 use borrow.Author.Needs.{needs}
 use Rattle.nodes.proofs.arm.Arm.load.Statement.{statement}
+use Rattle.nodes.specs.Arms.{armAt}
 use Rattle.nodes.proofs.arm.Arm.load.Tie as tie
 
--- src/arm.rt:99:19
+-- src/arm.rt:137:19
 mul-t3 : tie.Need-mul-t3
 mul-t3 c = search needs
 
--- src/arm.rt:99:19
+-- src/arm.rt:137:19
 shared-slice-read-t5 : tie.Need-shared-slice-read-t5
 shared-slice-read-t5 c = search needs
 
--- src/arm.rt:100:23
+-- src/arm.rt:138:23
 add-t6 : tie.Need-add-t6
 add-t6 c = search needs
 
--- src/arm.rt:100:21
+-- src/arm.rt:138:21
 mul-t7 : tie.Need-mul-t7
 mul-t7 c = search needs
 
--- src/arm.rt:100:21
+-- src/arm.rt:138:21
 shared-slice-read-t9 : tie.Need-shared-slice-read-t9
 shared-slice-read-t9 c = search needs
 
--- src/arm.rt:101:22
+-- src/arm.rt:139:22
 add-t10 : tie.Need-add-t10
 add-t10 c = search needs
 
--- src/arm.rt:101:20
+-- src/arm.rt:139:20
 mul-t11 : tie.Need-mul-t11
 mul-t11 c = search needs
 
--- src/arm.rt:101:20
+-- src/arm.rt:139:20
 shared-slice-read-t13 : tie.Need-shared-slice-read-t13
 shared-slice-read-t13 c = search needs
 
--- src/arm.rt:102:25
+-- src/arm.rt:140:25
 add-t14 : tie.Need-add-t14
 add-t14 c = search needs
 
--- src/arm.rt:102:23
+-- src/arm.rt:140:23
 mul-t15 : tie.Need-mul-t15
 mul-t15 c = search needs
 
--- src/arm.rt:102:23
+-- src/arm.rt:140:23
 shared-slice-read-t17 : tie.Need-shared-slice-read-t17
 shared-slice-read-t17 c = search needs
 
--- src/arm.rt:94:5
+-- src/arm.rt:141:23
+add-t18 : tie.Need-add-t18
+add-t18 c = search needs
+
+-- src/arm.rt:141:21
+mul-t19 : tie.Need-mul-t19
+mul-t19 c = search needs
+
+-- src/arm.rt:141:21
+shared-slice-read-t21 : tie.Need-shared-slice-read-t21
+shared-slice-read-t21 c = search needs
+
+-- src/arm.rt:132:5
 returns : tie.Need-returns
 unfolding armAt
-returns c = refl
+returns c = cc
 
 pub load-spec : {M : Type 1} → statement M
 load-spec =
@@ -68,4 +79,7 @@ load-spec =
     add-t14
     mul-t15
     shared-slice-read-t17
+    add-t18
+    mul-t19
+    shared-slice-read-t21
     returns)

@@ -2,9 +2,6 @@ use mathlib.Core.Path.{ap}
 use borrow.Author.Needs.{needs}
 use Rattle.nodes.proofs.primary.PrimaryRecord.fork.Statement.{statement}
 use Rattle.nodes.proofs.primary.PrimaryRecord.fork.Tie as tie
-use Rattle.nodes.proofs.primary.PrimaryRecord.fork.Reads as reads
-use Rattle.nodes.proofs.primary.PrimaryRecord.fork.Lts as lts
-use Rattle.nodes.proofs.primary.PrimaryRecord.way.Reads as way-reads
 
 -- src/primary.rt:221:13
 way-requires : tie.Need-way-requires

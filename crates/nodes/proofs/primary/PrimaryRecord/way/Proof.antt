@@ -3,11 +3,6 @@ use Rattle.nodes.proofs.primary.PrimaryRecord.way.Statement.{statement}
 use Rattle.nodes.specs.Ways.{wayAt}
 use Rattle.nodes.specs.Arms.{wayOf}
 use Rattle.nodes.proofs.primary.PrimaryRecord.way.Tie as tie
-use Rattle.nodes.proofs.primary.PrimaryRecord.way.Reads as reads
-use Rattle.nodes.proofs.primary.PrimaryRecord.way.Lts as lts
-use Rattle.geometry.proofs.Mark.below_x.Reads as below-x-reads
-use Rattle.nodes.proofs.primary.PrimaryRecord.load.Reads as primary-PrimaryRecord-load-reads
-use Rattle.table.proofs.slots.load.Reads as slots-load-reads
 
 -- src/primary.rt:196:13
 load-requires : tie.Need-load-requires

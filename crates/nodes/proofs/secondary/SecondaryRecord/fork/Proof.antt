@@ -2,9 +2,6 @@ use mathlib.Core.Path.{ap}
 use borrow.Author.Needs.{needs}
 use Rattle.nodes.proofs.secondary.SecondaryRecord.fork.Statement.{statement}
 use Rattle.nodes.proofs.secondary.SecondaryRecord.fork.Tie as tie
-use Rattle.nodes.proofs.secondary.SecondaryRecord.fork.Reads as reads
-use Rattle.nodes.proofs.secondary.SecondaryRecord.fork.Lts as lts
-use Rattle.nodes.proofs.secondary.SecondaryRecord.way.Reads as way-reads
 
 -- src/secondary.rt:233:13
 way-requires : tie.Need-way-requires

@@ -3,11 +3,6 @@ use Rattle.nodes.proofs.secondary.SecondaryRecord.way.Statement.{statem
 use Rattle.nodes.specs.Ways.{wayAt}
 use Rattle.nodes.specs.Arms.{wayOf}
 use Rattle.nodes.proofs.secondary.SecondaryRecord.way.Tie as tie
-use Rattle.nodes.proofs.secondary.SecondaryRecord.way.Reads as reads
-use Rattle.nodes.proofs.secondary.SecondaryRecord.way.Lts as lts
-use Rattle.geometry.proofs.Mark.below_y.Reads as below-y-reads
-use Rattle.nodes.proofs.secondary.SecondaryRecord.load.Reads as secondary-SecondaryRecord-load-reads
-use Rattle.table.proofs.slots.load.Reads as slots-load-reads
 
 -- src/secondary.rt:208:13
 load-requires : tie.Need-load-requires

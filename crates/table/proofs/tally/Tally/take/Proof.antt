@@ -1,7 +1,7 @@
 use borrow.Author.Needs.{needs}
+use Rattle.table.proofs.tally.Tally.take.Statement.{statement}
 use Rattle.table.specs.Tally.{visited}
-use Rattle.table.proofs.tally.Tally.with.Statement.{statement}
-use Rattle.table.proofs.tally.Tally.with.Tie as tie
+use Rattle.table.proofs.tally.Tally.take.Tie as tie
 
 -- src/tally.rt:28:50
 mul-wrapping-add-u64 : tie.Need-mul-wrapping-add-u64
@@ -18,9 +18,9 @@ wrapping-add-u64-requires c κs = search needs
 -- src/tally.rt:25:5
 returns : tie.Need-returns
 unfolding visited
-returns c = search needs
+returns c = cc
 
-pub with-spec : {M : Type 1} → statement M
-with-spec =
+pub take-spec : {M : Type 1} → statement M
+take-spec =
     tie.close
     (tie.spec mul-wrapping-add-u64 add-wrapping-add-u64 wrapping-add-u64-requires returns)

@@ -1,15 +1,7 @@
 use borrow.Author.Needs.{needs}
-use Rattle.nodes.proofs.secondary.SecondaryRecord.load.Statement.{statement}
+use Rattle.nodes.proofs.secondary.SecondaryRecord.read.Statement.{statement}
 use Rattle.nodes.specs.Arms.{recordAt}
-use Rattle.nodes.proofs.secondary.SecondaryRecord.load.Tie as tie
-
--- src/secondary.rt:165:51
-mul-load : tie.Need-mul-load
-mul-load c = search needs
-
--- src/secondary.rt:165:33
-add-load : tie.Need-add-load
-add-load c = search needs
+use Rattle.nodes.proofs.secondary.SecondaryRecord.read.Tie as tie
 
 -- src/secondary.rt:165:13
 load-requires : tie.Need-load-requires
@@ -28,5 +20,5 @@ returns : tie.Need-returns
 unfolding recordAt
 returns c = rw (← c .before .before .load .ensures, ← c .before .of .ensures, ← c .of2 .ensures)
 
-pub load-spec : {M : Type 1} → statement M
-load-spec = tie.close (tie.spec mul-load add-load load-requires of-requires of-requires-2 returns)
+pub read-spec : {M : Type 1} → statement M
+read-spec = tie.close (tie.spec load-requires of-requires of-requires-2 returns)
