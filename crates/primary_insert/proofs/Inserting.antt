@@ -152,7 +152,8 @@ module _ (f : ℕ → Mark) (C s : ℕ) (small : C ≤ 65536) (inC : s < C) wher
       rules = rules-right f (k .rules);
       new = omega (arith, k .new, countIf-append (slotSpace f sheet .same s) (marks l) (marks r));
       spot =
-          child-spot (least r) (mainPlace (least r) + armWidth) node-named (λ q p. grown-within alongX f (R f) mainPlace C s inC r (handed-right .main) q (p .0))
+          child-spot (least r) (mainPlace (least r) + armWidth) node-named
+          (λ q p. grown-within alongX f (R f) mainPlace C s inC r (handed-right .main) q (p .0))
           (λ p. p .1 (sym (insert-least (X f) (R f) s r e))) (omega arith) (omega arith);
     }
 
@@ -339,7 +340,8 @@ module _ (f : ℕ → Mark) (C s : ℕ) (small : C ≤ 65536) (inC : s < C) (xs 
   mended-depth t free =
       let g : SlotMain = insertLeaf (slotAxis f alongX) (slotAuxiliary f) s t in
       let m : SlotMain = rebalance (slotAxis f alongX) (slotAuxiliary f) g in
-      let w : weight m ≡ weight t + 1 = rebalance-weight (slotAxis f alongX) (slotAuxiliary f) g ∙ insert-weight (slotAxis f alongX) (slotAuxiliary f) s t in
+      let w : weight m ≡ weight t + 1 =
+      rebalance-weight (slotAxis f alongX) (slotAuxiliary f) g ∙ insert-weight (slotAxis f alongX) (slotAuxiliary f) s t in
       omega (arith, balanced-depth m (rebalance-balanced (slotAxis f alongX) (slotAuxiliary f) g), D-rises (weight m) C (omega arith))
 
   pub mainInsert-holds : (t : SlotMain) → armAt xs rootPlace ≡ armOf alongX f t → TwoFold f C 0 xs t → ByRules f t

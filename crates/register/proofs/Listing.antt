@@ -148,7 +148,8 @@ module _ (b : Box) (limit k : ℕ) (xs first second first′ second′ : List �
       unfolding sortedWords
       sorted-plain =
           let all = met ++ drop (listPlace k) first in
-          let front : take (listPlace k) all ≡ markWords (found .met) = take-at met (drop (listPlace k) first) (listPlace k) (long ∙ part-length) ∙ met-words in
+          let front : take (listPlace k) all ≡ markWords (found .met) =
+          take-at met (drop (listPlace k) first) (listPlace k) (long ∙ part-length) ∙ met-words in
           let room : listPlace k ≤ length all = omega (arith, length-append met (drop (listPlace k) first), long, part-length) in
           let marks : listMarks all 0 k ≡ found .met =
           sym (listMarks-take k all room) ∙ ap (λ l. listMarks l 0 k) front
@@ -212,7 +213,8 @@ module _ (b : Box) (xs first second : List ℕ) where
         → Performs call (lends xs first second) (lends xs first′ second′) (listGiven f first′ second′)
     own-performs (lost h) sf ss =
         let wrong = damage-unsound xs table b fine h in
-        refused-later call (lends xs first second) 4 0 (omega arith) (λ z. refl) (refl, refl) (λ T k. absurd (wrong (record { tree = T; holding = k }))) no-row
+        refused-later call (lends xs first second) 4 0 (omega arith) (λ z. refl) (refl, refl)
+        (λ T k. absurd (wrong (record { tree = T; holding = k }))) no-row
         (unsound refl wrong)
     own-performs (short soon few h) sf ss =
         refused-later call (lends xs first second) 10 (foundIn (mainCount♯ (own xs) b)) (omega arith) (λ z. refl) (refl, refl)

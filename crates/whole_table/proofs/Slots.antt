@@ -92,7 +92,8 @@ each-once-insert {xs = xs} {o′ = o′} k more e room slots =
 -- THE EXCHANGE: lists u and p that are each other's inverse below C, and u′ and p′ after the slot s and the last one changed places
 module _ (C last s : ℕ) (u p u′ p′ : ℕ → ℕ) (hl : last < C) (hs : s < C)
     (used : (j : ℕ) → j < C → (u j < C) × (p (u j) ≡ j)) (place : (q : ℕ) → q < C → (p q < C) × (u (p q) ≡ q))
-    (ownPlace : p′ s ≡ last) (lastUsed : u′ last ≡ s) (movedPlace : (u last ≡ s → ⊥) → p′ (u last) ≡ p s) (movedUsed : (p s ≡ last → ⊥) → u′ (p s) ≡ u last)
+    (ownPlace : p′ s ≡ last) (lastUsed : u′ last ≡ s)
+    (movedPlace : (u last ≡ s → ⊥) → p′ (u last) ≡ p s) (movedUsed : (p s ≡ last → ⊥) → u′ (p s) ≡ u last)
     (otherPlace : (q : ℕ) → q < C → (q ≡ s → ⊥) → (q ≡ u last → ⊥) → p′ q ≡ p q)
     (otherUsed : (j : ℕ) → j < C → (j ≡ last → ⊥) → (j ≡ p s → ⊥) → u′ j ≡ u j) where
   -- the last slot is s just where s has the last place
@@ -115,7 +116,8 @@ module _ (C last s : ℕ) (u p u′ p′ : ℕ → ℕ) (hl : last < C) (hs : s 
       let w = used j h in
       rw (otherUsed j h (eqb-false j last a) (eqb-false j (p s) b)) (
         w .0,
-        otherPlace (u j) (w .0) (λ z. eqb-false j (p s) b (sym (w .1) ∙ ap p z)) (λ z. eqb-false j last a (sym (w .1) ∙ ap p z ∙ used last hl .1)) ∙ w .1,
+        otherPlace (u j) (w .0) (λ z. eqb-false j (p s) b (sym (w .1) ∙ ap p z))
+            (λ z. eqb-false j last a (sym (w .1) ∙ ap p z ∙ used last hl .1)) ∙ w .1,
       )))
 
   exchange-place : (q : ℕ) → q < C → (p′ q < C) × (u′ (p′ q) ≡ q)
@@ -131,7 +133,8 @@ module _ (C last s : ℕ) (u p u′ p′ : ℕ → ℕ) (hl : last < C) (hs : s 
       let w = place q h in
       rw (otherPlace q h (eqb-false q s a) (eqb-false q (u last) b)) (
         w .0,
-        otherUsed (p q) (w .0) (λ z. eqb-false q (u last) b (sym (w .1) ∙ ap u z)) (λ z. eqb-false q s a (sym (w .1) ∙ ap u z ∙ place s hs .1)) ∙ w .1,
+        otherUsed (p q) (w .0) (λ z. eqb-false q (u last) b (sym (w .1) ∙ ap u z))
+            (λ z. eqb-false q s a (sym (w .1) ∙ ap u z ∙ place s hs .1)) ∙ w .1,
       )))
 
   -- the live slots, where s was one of them
@@ -232,7 +235,8 @@ module _ (last s : ℕ) (zs : List ℕ) where
     w5-place-moved ne =
         let j = placePlace C movedSlot in
         getD-set-other w4 livePlace j last 0 (omega arith) ∙ getD-set-other w3 (placePlace C s) j last 0 (λ e. ne (omega arith))
-        ∙ getD-set-other w2 (usedPlace C last) j s 0 (omega arith) ∙ getD-set-same w1 j vacated 0 (omega (arith, length-set zs (usedPlace C vacated) movedSlot))
+        ∙ getD-set-other w2 (usedPlace C last) j s 0 (omega arith)
+        ∙ getD-set-same w1 j vacated 0 (omega (arith, length-set zs (usedPlace C vacated) movedSlot))
 
     w5-used-moved : (vacated ≡ last → ⊥) → getD w5 (usedPlace C vacated) 0 ≡ movedSlot
     w5-used-moved ne =
