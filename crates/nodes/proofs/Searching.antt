@@ -145,14 +145,15 @@ module _ {I T : Type 0} (K : Kind T) (X : Axis Mark Box) (b : Box) (f : ℕ → 
       let al = laid-arrives (K .deeper base) l (h .2) in
       let ar = laid-arrives (K .deeper base) r (h .3) in
       low-node base l r (h .0) n here
-      ∙ by-cases (begins l)
-      (λ t. rw (t, ar .takes (rw (begins-begun l r s t, q)) here)
-      (low-adds n (K .deeper base) l (omega arith) (h .2) sl o t (goesOn-lasts l r s (lasts-goesOn r sr q)) (add (found r) here)
+      ∙ by-cases (begun r)
+      (λ br. rw (br, ar .takes (rw (br, q)) here)
+      (by-cases (begins l)
+      (λ bl. rw (bl, low-adds n (K .deeper base) l (omega arith) (h .2) sl o bl (goesOn-lasts l r s (lasts-goesOn r sr q)) (add (found r) here)))
+      (λ bl. rw (bl, al .skips bl (add (found r) here)))
       ∙ add-swap (found l) (found r) here))
-      (λ t. rw (t, al .skips t here)
-      (by-cases (begun r)
-      (λ u. rw (u, ar .takes (rw (u, q)) (add (found l) here)))
-      (λ u. rw (u, low-adds n (K .deeper base) r (omega arith) (h .3) sr u p q (add (found l) here)))))
+      (λ br.
+      let bl = by-cases (begins l) (λ t. clash (begins-begun l r s t) br) (λ t. t) in
+      rw (br, al .skips bl here, low-adds n (K .deeper base) r (omega arith) (h .3) sr br p q (add (found l) here)))
       ∙ sym (opened-adds i l r (rw o) (rw (p, lasts-goesOn (node i l r) s q)) tally)
 
   -- beneath a node that begins on the side, and in which it ends, once it is visited
@@ -168,16 +169,14 @@ module _ {I T : Type 0} (K : Kind T) (X : Axis Mark Box) (b : Box) (f : ℕ → 
       let al = laid-arrives (K .deeper base) l (h .2) in
       let ar = laid-arrives (K .deeper base) r (h .3) in
       high-node base l r (h .0) n here
-      ∙ by-cases (goesOn r)
-      (λ t. rw (
-        t,
-        al .takes (rw (o, goesOn-lasts l r s t)) here,
-        high-adds n (K .deeper base) r (omega arith) (h .3) sr (begins-begun l r s (begun-begins l sl o)) t q (add (found l) here),
-      ))
-      (λ t. rw t
-      (by-cases (lasts l)
-      (λ u. rw (u, al .takes (rw (o, u)) (K .past here), ar .passes t here) (add-swap (found l) (found r) here))
-      (λ u. rw (u, high-adds n (K .deeper base) l (omega arith) (h .2) sl o p u (K .past here), ar .passes t here) (add-swap (found l) (found r) here))))
+      ∙ by-cases (lasts l)
+      (λ ll. rw (ll, al .takes (rw (o, ll)) here)
+      (by-cases (goesOn r)
+      (λ gr. rw (gr, high-adds n (K .deeper base) r (omega arith) (h .3) sr (begins-begun l r s (begun-begins l sl o)) gr q (add (found l) here)))
+      (λ gr. rw (gr, ar .passes gr (add (found l) here)))))
+      (λ ll.
+      let gr = by-cases (goesOn r) (λ t. clash (goesOn-lasts l r s t) ll) (λ t. t) in
+      rw (ll, high-adds n (K .deeper base) l (omega arith) (h .2) sl o p ll (K .past here), ar .passes gr here) (add-swap (found l) (found r) here))
       ∙ sym (opened-adds i l r (rw (o, q)) (rw (begun-begins (node i l r) s o, p)) tally)
 
   -- the two children of a node where the ends of the side part
@@ -262,13 +261,15 @@ module _ {I T : Type 0} (K : Kind T) (X : Axis Mark Box) (b : Box) (f : ℕ → 
     unfolding countTree
     count-adds base t d h s tally =
         let a = laid-arrives base t h in
-        by-cases (inside A b t)
-        (λ i. rw i (a .takes i tally))
-        (λ i. by-cases (begins t)
-        (λ p. by-cases (goesOn t)
-        (λ o. rw (i, p, o) (open-adds 40 base t d d h s i p o tally))
-        (λ o. rw (i, p, o) (a .passes o tally)))
-        (λ p. rw (i, p) (a .skips p tally)))
+        by-cases (begun t)
+        (λ o. by-cases (lasts t)
+        (λ q. rw (o, q) (a .takes (rw (o, q)) tally))
+        (λ q. by-cases (goesOn t)
+        (λ g. rw (o, q, g) (open-adds 40 base t d d h s (rw (o, q)) (begun-begins t s o) g tally))
+        (λ g. rw (o, q, g) (a .passes g tally))))
+        (λ o. by-cases (begins t)
+        (λ p. rw (o, p) (open-adds 40 base t d d h s (rw o) p (straight (A .at (least t)) o) tally))
+        (λ p. rw (o, p) (a .skips p tally)))
 
 -- the tally in one number: sums go round at 2^64, so no bound is asked for
 pub added-both : (f : ℕ → Mark) (g h : Found ℕ) (tally : ℕ) → added f (together g h) tally ≡ added f h (added f g tally)

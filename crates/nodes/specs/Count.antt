@@ -2,7 +2,7 @@
 -- down to the node where the ends of the side part, and from there beneath each child with one end to look for. Assumes nothing.
 use Prim.Native.Nat.{ℕ, zero, suc, _+_, _*_, _-_, _/_, _%_, _^_}
 use mathlib.Core.Path.{_≡_, refl}
-use mathlib.Core.Bool.{Bool, not, _&&_}
+use mathlib.Core.Bool.{Bool, not}
 use mathlib.Core.List.{List}
 use native.Mathlib.Omega.{arith}
 use lib.Dec.{leb}
@@ -56,21 +56,19 @@ module _ {T : Type 0} (K : Kind T) (S : Side) where
   abbrev pub Beneath : Type 0
   Beneath = ℕ → ℕ → T → T
 
-  -- beneath a node in which the side begins, and which ends on it
+  -- beneath a node in which the side begins, and which ends on it: it begins in the right child, or the right child is inside it
   unfoldable pub lowRecord : Beneath → ℕ → Record → T → T
   lowRecord rec base p tally =
-      if before (p .left .greatest)
-      then (if before (p .right .least) then rec (K .deeper base) (p .right .node) (K .visit (K .before (p .left) tally))
-      else K .take (K .deeper base) (p .right) (K .before (p .left) tally))
-      else rec (K .deeper base) (p .left .node) (K .visit (K .take (K .deeper base) (p .right) tally))
+      if before (p .right .least) then rec (K .deeper base) (p .right .node) (K .visit (K .before (p .left) tally))
+      else (if before (p .left .greatest) then K .before (p .left) (K .take (K .deeper base) (p .right) tally)
+      else rec (K .deeper base) (p .left .node) (K .visit (K .take (K .deeper base) (p .right) tally)))
 
-  -- beneath one that begins on the side, and in which it ends
+  -- beneath one that begins on the side, and in which it ends: it ends in the left child, or the left child is inside it
   unfoldable pub highRecord : Beneath → ℕ → Record → T → T
   highRecord rec base p tally =
-      if past (p .right .least)
-      then (if past (p .left .greatest) then rec (K .deeper base) (p .left .node) (K .visit (K .past tally))
-      else K .take (K .deeper base) (p .left) (K .past tally))
-      else rec (K .deeper base) (p .right .node) (K .visit (K .take (K .deeper base) (p .left) tally))
+      if past (p .left .greatest) then rec (K .deeper base) (p .left .node) (K .visit (K .past tally))
+      else (if past (p .right .least) then K .past (K .take (K .deeper base) (p .left) tally)
+      else rec (K .deeper base) (p .right .node) (K .visit (K .take (K .deeper base) (p .left) tally)))
 
   -- a node that is of no slot of the table is damage
   module _ (capacity : ℕ) (xs : List ℕ) where
@@ -119,9 +117,9 @@ module _ {T : Type 0} (K : Kind T) (S : Side) where
     -- the arrival at a tree, from where its level begins, its arm and a tally
     unfoldable pub countTree : ℕ → Arm → T → T
     countTree base a tally =
-        if S .fromLow (a .least) && S .toHigh (a .greatest) then K .take base a tally
-        else (if before (a .greatest) then K .before a tally
-        else (if past (a .least) then K .past tally else openFrom deepest base (a .node) (K .visit tally)))
+        if before (a .least) then (if before (a .greatest) then K .before a tally else openFrom deepest base (a .node) (K .visit tally))
+        else (if past (a .greatest) then (if past (a .least) then K .past tally else openFrom deepest base (a .node) (K .visit tally))
+        else K .take base a tally)
 
     pub lowFrom-zero : (f : ℕ) → f ≡ 0 → (base n : ℕ) (tally : T) → lowFrom f base n tally ≡ K .lost
     unfolding lowFrom

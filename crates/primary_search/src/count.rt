@@ -73,7 +73,8 @@ fn handed(t: &[u32], base: u32, capacity: u32, b: Box, node: Primary, tally: Fig
     Figures(hand_over(t, base, end, b.y1, b.y2, s, tally.0))
 }
 
-// Beneath a node in which the side begins, and which ends on it; its level begins at `level`.
+// Beneath a node in which the side begins, and which ends on it; its level begins at `level`. Either the side begins in the right child, and the left one ends
+// before it, or the right child is inside the side.
 fn from_low(t: &[u32], level: u32, capacity: u32, b: Box, start: Primary, from: Figures) -> Figures
     requires { ⌜ slotsEnd capacity ≤ length (now t) ⌝ }
     ensures { λ r. ⌜ r .0 ≡ mainLow♯ (now (t .entry)) capacity (boxValue b) level (start .0) (from .0) ⌝ }
@@ -94,23 +95,23 @@ fn from_low(t: &[u32], level: u32, capacity: u32, b: Box, start: Primary, from: 
         let left_node = l.node;
         let right_node = r.node;
         base = levels::deeper(base, capacity);
-        if b.before_x(l.greatest) {
-            tally = tally.before(l.weight);
-            if b.before_x(r.least) {
-                tally = tally.visit();
-                node = right_node;
-            } else {
-                return handed(t, base, capacity, b, right_node, tally);
-            }
+        if b.before_x(r.least) {
+            tally = tally.before(l.weight).visit();
+            node = right_node;
         } else {
-            tally = handed(t, base, capacity, b, right_node, tally).visit();
+            tally = handed(t, base, capacity, b, right_node, tally);
+            if b.before_x(l.greatest) {
+                return tally.before(l.weight);
+            }
+            tally = tally.visit();
             node = left_node;
         }
     }
     Figures::lost()
 }
 
-// Beneath a node that begins on the side, and in which it ends.
+// Beneath a node that begins on the side, and in which it ends. Either the side ends in the left child, and the right one begins past it, or the left child is
+// inside the side.
 fn to_high(t: &[u32], level: u32, capacity: u32, b: Box, start: Primary, from: Figures) -> Figures
     requires { ⌜ slotsEnd capacity ≤ length (now t) ⌝ }
     ensures { λ r. ⌜ r .0 ≡ mainHigh♯ (now (t .entry)) capacity (boxValue b) level (start .0) (from .0) ⌝ }
@@ -131,16 +132,15 @@ fn to_high(t: &[u32], level: u32, capacity: u32, b: Box, start: Primary, from: F
         let left_node = l.node;
         let right_node = r.node;
         base = levels::deeper(base, capacity);
-        if b.past_x(r.least) {
-            tally = tally.past();
-            if b.past_x(l.greatest) {
-                tally = tally.visit();
-                node = left_node;
-            } else {
-                return handed(t, base, capacity, b, left_node, tally);
-            }
+        if b.past_x(l.greatest) {
+            tally = tally.past().visit();
+            node = left_node;
         } else {
-            tally = handed(t, base, capacity, b, left_node, tally).visit();
+            tally = handed(t, base, capacity, b, left_node, tally);
+            if b.past_x(r.least) {
+                return tally.past();
+            }
+            tally = tally.visit();
             node = right_node;
         }
     }
@@ -212,9 +212,8 @@ fn opened(t: &[u32], level: u32, capacity: u32, b: Box, start: Primary, from: Fi
     Figures::lost()
 }
 
-// The figures of the marks that the box holds of a tree whose level begins at `level`, with the visits, from its root's arm: of the table's tree, or
-// of any that stands in its
-// words.
+// The figures of the marks that the box holds of a tree whose level begins at `level`, with the visits, from its root's arm: of the table's tree, or of any that
+// stands in its words.
 pub fn search(t: &[u32], level: u32, capacity: u32, b: Box, root: PrimaryArm) -> Figures
     requires { ⌜ slotsEnd capacity ≤ length (now t) ⌝ }
     ensures { λ r. ⌜ r .0 ≡ mainSearch♯ (now (t .entry)) capacity (boxValue b) level (primaryArm root) ⌝ }
@@ -227,22 +226,25 @@ pub fn search(t: &[u32], level: u32, capacity: u32, b: Box, root: PrimaryArm) ->
     if n.is_leaf() {
         return leaf(t, b, s, Figures::none());
     }
-    if b.inside_x(root.least, root.greatest) {
-        let end = SecondaryRecord::level_end(level, capacity);
-        return Figures(hand_over(t, level, end, b.y1, b.y2, s, 0));
-    }
-    if b.before_x(root.greatest) {
-        return Figures::none().before(root.weight);
-    }
-    if b.past_x(root.least) {
-        return Figures::none().past();
+    if b.before_x(root.least) {
+        if b.before_x(root.greatest) {
+            return Figures::none().before(root.weight);
+        }
+    } else {
+        if b.past_x(root.greatest) {
+            if b.past_x(root.least) {
+                return Figures::none().past();
+            }
+        } else {
+            let end = SecondaryRecord::level_end(level, capacity);
+            return Figures(hand_over(t, level, end, b.y1, b.y2, s, 0));
+        }
     }
     opened(t, level, capacity, b, n, Figures::none().visit())
 }
 
-// The figures of the table's marks that the box of these sides holds, with the visits. Where they are more than a sound table's can be (sizes::Size),
-// the words hold
-// no tree. (Numbers in place of a Box, and the words lent on: both reach the loop in registers.)
+// The figures of the table's marks that the box of these sides holds, with the visits. Where they are more than a sound table's can be (sizes::Size), the words
+// hold no tree. (Numbers in place of a Box, and the words lent on: both reach the loop in registers.)
 pub fn count(t: &[u32], capacity: u32, x1: u32, x2: u32, y1: u32, y2: u32) -> Figures
     requires { ⌜ slotsEnd capacity ≤ length (now t) ⌝ }
     ensures { λ r. ⌜ r .0 ≡ countFrom♯ (now (t .entry)) capacity (box x1 x2 y1 y2) ⌝ }

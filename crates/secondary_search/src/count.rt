@@ -12,7 +12,8 @@ use nodes::secondary::SecondaryRecord;
 use table::figures::Figures;
 use table::limits;
 
-// Beneath a node in which the side begins, and which ends on it.
+// Beneath a node in which the side begins, and which ends on it. Either the side begins in the right child, and the left one ends before it, or the right child
+// is inside the side.
 fn from_low(t: &[u32], b: Box, start: Secondary, from: Figures) -> Figures
     requires { ⌜ Records (now t) ⌝ }
     ensures { λ r. ⌜ r .0 ≡ low♯ (now (t .entry)) (records (now (t .entry))) (boxValue b) 0 (start .0) (from .0) ⌝ }
@@ -31,23 +32,23 @@ fn from_low(t: &[u32], b: Box, start: Secondary, from: Figures) -> Figures
         let r = p.right;
         let left_node = l.node;
         let right_node = r.node;
-        if b.before_y(l.greatest) {
-            tally = tally.before(l.weight);
-            if b.before_y(r.least) {
-                tally = tally.visit();
-                node = right_node;
-            } else {
-                return tally.take(r.weight, r.grades);
-            }
+        if b.before_y(r.least) {
+            tally = tally.before(l.weight).visit();
+            node = right_node;
         } else {
-            tally = tally.take(r.weight, r.grades).visit();
+            tally = tally.take(r.weight, r.grades);
+            if b.before_y(l.greatest) {
+                return tally.before(l.weight);
+            }
+            tally = tally.visit();
             node = left_node;
         }
     }
     Figures::lost()
 }
 
-// Beneath a node that begins on the side, and in which it ends.
+// Beneath a node that begins on the side, and in which it ends. Either the side ends in the left child, and the right one begins past it, or the left child is
+// inside the side.
 fn to_high(t: &[u32], b: Box, start: Secondary, from: Figures) -> Figures
     requires { ⌜ Records (now t) ⌝ }
     ensures { λ r. ⌜ r .0 ≡ high♯ (now (t .entry)) (records (now (t .entry))) (boxValue b) 0 (start .0) (from .0) ⌝ }
@@ -66,16 +67,15 @@ fn to_high(t: &[u32], b: Box, start: Secondary, from: Figures) -> Figures
         let r = p.right;
         let left_node = l.node;
         let right_node = r.node;
-        if b.past_y(r.least) {
-            tally = tally.past();
-            if b.past_y(l.greatest) {
-                tally = tally.visit();
-                node = left_node;
-            } else {
-                return tally.take(l.weight, l.grades);
-            }
+        if b.past_y(l.greatest) {
+            tally = tally.past().visit();
+            node = left_node;
         } else {
-            tally = tally.take(l.weight, l.grades).visit();
+            tally = tally.take(l.weight, l.grades);
+            if b.past_y(r.least) {
+                return tally.past();
+            }
+            tally = tally.visit();
             node = right_node;
         }
     }
@@ -145,19 +145,24 @@ fn opened(t: &[u32], b: Box, start: Secondary, from: Figures) -> Figures
     Figures::lost()
 }
 
-// The figures of a tree's marks on the box's side, and the visits, onto a tally.
+// The figures of a tree's marks on the box's side, and the visits, onto a tally. Most trees that are handed over to begin before the side and do not end there:
+// two comparisons tell it.
 pub fn count(t: &[u32], b: Box, root: SecondaryArm, from: Figures) -> Figures
     requires { ⌜ Records (now t) ⌝ }
     ensures { λ r. ⌜ r .0 ≡ count♯ (now (t .entry)) (records (now (t .entry))) (boxValue b) 0 (secondaryArm root) (from .0) ⌝ }
 {
-    if b.inside_y(root.least, root.greatest) {
-        return from.take(root.weight, root.grades);
-    }
-    if b.before_y(root.greatest) {
-        return from.before(root.weight);
-    }
-    if b.past_y(root.least) {
-        return from.past();
+    if b.before_y(root.least) {
+        if b.before_y(root.greatest) {
+            return from.before(root.weight);
+        }
+    } else {
+        if b.past_y(root.greatest) {
+            if b.past_y(root.least) {
+                return from.past();
+            }
+        } else {
+            return from.take(root.weight, root.grades);
+        }
     }
     opened(t, b, root.node, from.visit())
 }

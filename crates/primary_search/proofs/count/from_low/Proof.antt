@@ -24,23 +24,23 @@ Inv-loop t level capacity b base₀ node₀ tally₀ left₀ base node tally lef
 abbrev μ-loop : tie.MeasureT-loop
 μ-loop t level capacity b base₀ node₀ tally₀ left₀ base node tally left = left
 
--- src/count.rt:76:5
+-- src/count.rt:85:5
 loop-holds : tie.Need-loop-holds Inv-loop μ-loop
 loop-holds c = search needs
 
--- src/count.rt:77:9
+-- src/count.rt:86:9
 sub-left : tie.Need-sub-left Inv-loop μ-loop
 sub-left c = search needs
 
--- src/count.rt:78:13
+-- src/count.rt:87:13
 slot-requires : tie.Need-slot-requires Inv-loop μ-loop
 slot-requires c κs = search needs
 
--- src/count.rt:80:13
+-- src/count.rt:89:13
 lost-requires : tie.Need-lost-requires Inv-loop μ-loop
 lost-requires c κs = search needs
 
--- src/count.rt:80:13
+-- src/count.rt:89:13
 returns : tie.Need-returns Inv-loop μ-loop
 unfolding lowNode lowRecord
 returns c =
@@ -55,114 +55,34 @@ returns c =
       ← c .lost .ensures,
     )
 
--- src/count.rt:82:13
+-- src/count.rt:91:13
 load-requires : tie.Need-load-requires Inv-loop μ-loop
 load-requires c κs = search (needs, c .if1 .left)
 
--- src/count.rt:87:9
+-- src/count.rt:96:9
 deeper-requires : tie.Need-deeper-requires Inv-loop μ-loop
 deeper-requires c κs = search needs
 
--- src/count.rt:88:12
+-- src/count.rt:97:12
 before-x-requires : tie.Need-before-x-requires Inv-loop μ-loop
 before-x-requires c κs = search needs
 
--- src/count.rt:89:13
+-- src/count.rt:98:21
 before-requires : tie.Need-before-requires Inv-loop μ-loop
 before-requires c κs = search needs
 
--- src/count.rt:90:16
-before-x-requires-2 : tie.Need-before-x-requires-2 Inv-loop μ-loop
-before-x-requires-2 c κs = search needs
-
--- src/count.rt:91:17
+-- src/count.rt:98:13
 visit-requires : tie.Need-visit-requires Inv-loop μ-loop
 visit-requires c κs = search needs
 
--- src/count.rt:76:5
+-- src/count.rt:85:5
 loop-less : tie.Need-loop-less Inv-loop μ-loop
 loop-less c = search needs
 
--- src/count.rt:76:5
+-- src/count.rt:85:5
 loop-again : tie.Need-loop-again Inv-loop μ-loop
 unfolding lowNode lowRecord
 loop-again c =
-    let at-before-x2 = c .before .before in
-    let at-before2 = at-before-x2 .before in
-    let at-if2 = at-before2 .before in
-    let at-before-x = at-if2 .before in
-    let at-deeper = at-before-x .before in
-    let at-load = at-deeper .before .before .before .before .before in
-    let at-if1 = at-load .before in
-    let at-slot = at-if1 .before in
-    let at-loop-test = at-slot .before in
-    let at-loop = at-loop-test .before in (
-      omega (arith, at-loop .loop .inv .0),
-      rw (
-        ← at-loop .loop .inv .1,
-        lowFrom-suc _ _ _ _ _ (positive _ (at-loop-test .loop-test .taken)),
-        ← at-slot .slot .ensures,
-        lt-leb _ _ (at-if1 .if1 .left),
-        ← at-load .load .ensures,
-        ← at-deeper .deeper .ensures,
-        ← at-before-x .before-x .ensures,
-        at-if2 .if2 .taken,
-        ← at-before2 .before2 .ensures,
-        ← at-before-x2 .before-x2 .ensures,
-        c .before .if3 .taken,
-        ← c .visit .ensures,
-      ),
-    )
-
--- src/count.rt:94:17
-handed-requires : tie.Need-handed-requires Inv-loop μ-loop
-handed-requires c κs = search needs
-
--- src/count.rt:94:17
-returns-2 : tie.Need-returns-2 Inv-loop μ-loop
-unfolding lowNode lowRecord
-returns-2 c =
-    let at-before-x2 = c .before .before in
-    let at-before2 = at-before-x2 .before in
-    let at-if2 = at-before2 .before in
-    let at-before-x = at-if2 .before in
-    let at-deeper = at-before-x .before in
-    let at-load = at-deeper .before .before .before .before .before in
-    let at-if1 = at-load .before in
-    let at-slot = at-if1 .before in
-    let at-loop-test = at-slot .before in
-    let at-loop = at-loop-test .before in
-    rw (
-      ← at-loop .loop .inv .1,
-      lowFrom-suc _ _ _ _ _ (positive _ (at-loop-test .loop-test .taken)),
-      ← at-slot .slot .ensures,
-      lt-leb _ _ (at-if1 .if1 .left),
-      ← at-load .load .ensures,
-      ← at-deeper .deeper .ensures,
-      ← at-before-x .before-x .ensures,
-      at-if2 .if2 .taken,
-      ← at-before2 .before2 .ensures,
-      ← at-before-x2 .before-x2 .ensures,
-      c .before .if3 .left,
-      ← c .handed .ensures,
-    )
-
--- src/count.rt:97:21
-handed-requires-2 : tie.Need-handed-requires-2 Inv-loop μ-loop
-handed-requires-2 c κs = search needs
-
--- src/count.rt:97:13
-visit-requires-2 : tie.Need-visit-requires-2 Inv-loop μ-loop
-visit-requires-2 c κs = search needs
-
--- src/count.rt:76:5
-loop-less-2 : tie.Need-loop-less-2 Inv-loop μ-loop
-loop-less-2 c = search needs
-
--- src/count.rt:76:5
-loop-again-2 : tie.Need-loop-again-2 Inv-loop μ-loop
-unfolding lowNode lowRecord
-loop-again-2 c =
     let at-if2 = c .before .before in
     let at-before-x = at-if2 .before in
     let at-deeper = at-before-x .before in
@@ -180,17 +100,97 @@ loop-again-2 c =
         ← at-load .load .ensures,
         ← at-deeper .deeper .ensures,
         ← at-before-x .before-x .ensures,
+        at-if2 .if2 .taken,
+        ← c .before .before2 .ensures,
+        ← c .visit .ensures,
+      ),
+    )
+
+-- src/count.rt:101:13
+handed-requires : tie.Need-handed-requires Inv-loop μ-loop
+handed-requires c κs = search needs
+
+-- src/count.rt:102:16
+before-x-requires-2 : tie.Need-before-x-requires-2 Inv-loop μ-loop
+before-x-requires-2 c κs = search needs
+
+-- src/count.rt:103:17
+before-requires-2 : tie.Need-before-requires-2 Inv-loop μ-loop
+before-requires-2 c κs = search needs
+
+-- src/count.rt:103:17
+returns-2 : tie.Need-returns-2 Inv-loop μ-loop
+unfolding lowNode lowRecord
+returns-2 c =
+    let at-before-x2 = c .before .before in
+    let at-handed = at-before-x2 .before in
+    let at-if2 = at-handed .before in
+    let at-before-x = at-if2 .before in
+    let at-deeper = at-before-x .before in
+    let at-load = at-deeper .before .before .before .before .before in
+    let at-if1 = at-load .before in
+    let at-slot = at-if1 .before in
+    let at-loop-test = at-slot .before in
+    let at-loop = at-loop-test .before in
+    rw (
+      ← at-loop .loop .inv .1,
+      lowFrom-suc _ _ _ _ _ (positive _ (at-loop-test .loop-test .taken)),
+      ← at-slot .slot .ensures,
+      lt-leb _ _ (at-if1 .if1 .left),
+      ← at-load .load .ensures,
+      ← at-deeper .deeper .ensures,
+      ← at-before-x .before-x .ensures,
+      at-if2 .if2 .left,
+      ← at-handed .handed .ensures,
+      ← at-before-x2 .before-x2 .ensures,
+      c .before .if3 .taken,
+      ← c .before3 .ensures,
+    )
+
+-- src/count.rt:105:13
+visit-requires-2 : tie.Need-visit-requires-2 Inv-loop μ-loop
+visit-requires-2 c κs = search needs
+
+-- src/count.rt:85:5
+loop-less-2 : tie.Need-loop-less-2 Inv-loop μ-loop
+loop-less-2 c = search needs
+
+-- src/count.rt:85:5
+loop-again-2 : tie.Need-loop-again-2 Inv-loop μ-loop
+unfolding lowNode lowRecord
+loop-again-2 c =
+    let at-before-x2 = c .before .before in
+    let at-handed = at-before-x2 .before in
+    let at-if2 = at-handed .before in
+    let at-before-x = at-if2 .before in
+    let at-deeper = at-before-x .before in
+    let at-load = at-deeper .before .before .before .before .before in
+    let at-if1 = at-load .before in
+    let at-slot = at-if1 .before in
+    let at-loop-test = at-slot .before in
+    let at-loop = at-loop-test .before in (
+      omega (arith, at-loop .loop .inv .0),
+      rw (
+        ← at-loop .loop .inv .1,
+        lowFrom-suc _ _ _ _ _ (positive _ (at-loop-test .loop-test .taken)),
+        ← at-slot .slot .ensures,
+        lt-leb _ _ (at-if1 .if1 .left),
+        ← at-load .load .ensures,
+        ← at-deeper .deeper .ensures,
+        ← at-before-x .before-x .ensures,
         at-if2 .if2 .left,
-        ← c .before .handed2 .ensures,
+        ← at-handed .handed .ensures,
+        ← at-before-x2 .before-x2 .ensures,
+        c .before .if3 .left,
         ← c .visit2 .ensures,
       ),
     )
 
--- src/count.rt:101:5
+-- src/count.rt:109:5
 lost-requires-2 : tie.Need-lost-requires-2 Inv-loop μ-loop
 lost-requires-2 c κs = search needs
 
--- src/count.rt:68:1
+-- src/count.rt:77:1
 returns-3 : tie.Need-returns-3 Inv-loop μ-loop
 unfolding lowNode lowRecord
 returns-3 c = rw (
@@ -214,13 +214,13 @@ from-low-spec =
     deeper-requires
     before-x-requires
     before-requires
-    before-x-requires-2
     visit-requires
     loop-less
     loop-again
     handed-requires
+    before-x-requires-2
+    before-requires-2
     returns-2
-    handed-requires-2
     visit-requires-2
     loop-less-2
     loop-again-2

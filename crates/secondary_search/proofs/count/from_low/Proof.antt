@@ -22,23 +22,23 @@ Inv-loop t b node₀ tally₀ left₀ node tally left =
 abbrev μ-loop : tie.MeasureT-loop
 μ-loop t b node₀ tally₀ left₀ node tally left = left
 
--- src/count.rt:25:5
+-- src/count.rt:23:5
 loop-holds : tie.Need-loop-holds Inv-loop μ-loop
 loop-holds c = search needs
 
--- src/count.rt:26:9
+-- src/count.rt:24:9
 sub-left : tie.Need-sub-left Inv-loop μ-loop
 sub-left c = search needs
 
--- src/count.rt:27:13
+-- src/count.rt:25:13
 place-requires : tie.Need-place-requires Inv-loop μ-loop
 place-requires c κs = search needs
 
--- src/count.rt:29:13
+-- src/count.rt:27:13
 lost-requires : tie.Need-lost-requires Inv-loop μ-loop
 lost-requires c κs = search needs
 
--- src/count.rt:29:13
+-- src/count.rt:27:13
 returns : tie.Need-returns Inv-loop μ-loop
 unfolding lowNode lowRecord
 returns c =
@@ -52,109 +52,33 @@ returns c =
       ← c .lost .ensures,
     )
 
--- src/count.rt:31:13
+-- src/count.rt:29:13
 read-requires : tie.Need-read-requires Inv-loop μ-loop
 read-requires c κs =
     let at-place = c .before in
     let at-start = at-place .before .before .before .before in
     record-there (at-start .args .t .now) _ _ (at-start .pre) (at-place .place .ensures) (c .if1 .left)
 
--- src/count.rt:36:12
+-- src/count.rt:34:12
 before-y-requires : tie.Need-before-y-requires Inv-loop μ-loop
 before-y-requires c κs = search needs
 
--- src/count.rt:37:13
+-- src/count.rt:35:21
 before-requires : tie.Need-before-requires Inv-loop μ-loop
 before-requires c κs = search needs
 
--- src/count.rt:38:16
-before-y-requires-2 : tie.Need-before-y-requires-2 Inv-loop μ-loop
-before-y-requires-2 c κs = search needs
-
--- src/count.rt:39:17
+-- src/count.rt:35:13
 visit-requires : tie.Need-visit-requires Inv-loop μ-loop
 visit-requires c κs = search needs
 
--- src/count.rt:25:5
+-- src/count.rt:23:5
 loop-less : tie.Need-loop-less Inv-loop μ-loop
 loop-less c = search needs
 
--- src/count.rt:25:5
+-- src/count.rt:23:5
 loop-again : tie.Need-loop-again Inv-loop μ-loop
 unfolding lowNode lowRecord
 loop-again c =
-    let at-before-y2 = c .before .before in
-    let at-before2 = at-before-y2 .before in
-    let at-if2 = at-before2 .before in
-    let at-before-y = at-if2 .before in
-    let at-read = at-before-y .before .before .before .before .before in
-    let at-if1 = at-read .before in
-    let at-place = at-if1 .before in
-    let at-loop-test = at-place .before in
-    let at-loop = at-loop-test .before in (
-      omega (arith, at-loop .loop .inv .0),
-      rw (
-        ← at-loop .loop .inv .1,
-        lowFrom-suc auxiliaryKind _ _ _ _ (positive _ (at-loop-test .loop-test .taken)),
-        before-end _ _ _ (at-loop .before .before .pre) (at-place .place .ensures) (at-if1 .if1 .left),
-        ← at-place .place .ensures,
-        ← at-read .read .ensures,
-        ← at-before-y .before-y .ensures,
-        at-if2 .if2 .taken,
-        ← at-before2 .before2 .ensures,
-        ← at-before-y2 .before-y2 .ensures,
-        c .before .if3 .taken,
-        ← c .visit .ensures,
-      ),
-    )
-
--- src/count.rt:42:17
-take-requires : tie.Need-take-requires Inv-loop μ-loop
-take-requires c κs = search needs
-
--- src/count.rt:42:17
-returns-2 : tie.Need-returns-2 Inv-loop μ-loop
-unfolding lowNode lowRecord
-returns-2 c =
-    let at-before-y2 = c .before .before in
-    let at-before2 = at-before-y2 .before in
-    let at-if2 = at-before2 .before in
-    let at-before-y = at-if2 .before in
-    let at-read = at-before-y .before .before .before .before .before in
-    let at-if1 = at-read .before in
-    let at-place = at-if1 .before in
-    let at-loop-test = at-place .before in
-    let at-loop = at-loop-test .before in
-    rw (
-      ← at-loop .loop .inv .1,
-      lowFrom-suc auxiliaryKind _ _ _ _ (positive _ (at-loop-test .loop-test .taken)),
-      before-end _ _ _ (at-loop .before .before .pre) (at-place .place .ensures) (at-if1 .if1 .left),
-      ← at-place .place .ensures,
-      ← at-read .read .ensures,
-      ← at-before-y .before-y .ensures,
-      at-if2 .if2 .taken,
-      ← at-before2 .before2 .ensures,
-      ← at-before-y2 .before-y2 .ensures,
-      c .before .if3 .left,
-      ← c .take .ensures,
-    )
-
--- src/count.rt:45:21
-take-requires-2 : tie.Need-take-requires-2 Inv-loop μ-loop
-take-requires-2 c κs = search needs
-
--- src/count.rt:45:13
-visit-requires-2 : tie.Need-visit-requires-2 Inv-loop μ-loop
-visit-requires-2 c κs = search needs
-
--- src/count.rt:25:5
-loop-less-2 : tie.Need-loop-less-2 Inv-loop μ-loop
-loop-less-2 c = search needs
-
--- src/count.rt:25:5
-loop-again-2 : tie.Need-loop-again-2 Inv-loop μ-loop
-unfolding lowNode lowRecord
-loop-again-2 c =
     let at-if2 = c .before .before in
     let at-before-y = at-if2 .before in
     let at-read = at-before-y .before .before .before .before .before in
@@ -170,17 +94,93 @@ loop-again-2 c =
         ← at-place .place .ensures,
         ← at-read .read .ensures,
         ← at-before-y .before-y .ensures,
+        at-if2 .if2 .taken,
+        ← c .before .before2 .ensures,
+        ← c .visit .ensures,
+      ),
+    )
+
+-- src/count.rt:38:13
+take-requires : tie.Need-take-requires Inv-loop μ-loop
+take-requires c κs = search needs
+
+-- src/count.rt:39:16
+before-y-requires-2 : tie.Need-before-y-requires-2 Inv-loop μ-loop
+before-y-requires-2 c κs = search needs
+
+-- src/count.rt:40:17
+before-requires-2 : tie.Need-before-requires-2 Inv-loop μ-loop
+before-requires-2 c κs = search needs
+
+-- src/count.rt:40:17
+returns-2 : tie.Need-returns-2 Inv-loop μ-loop
+unfolding lowNode lowRecord
+returns-2 c =
+    let at-before-y2 = c .before .before in
+    let at-take = at-before-y2 .before in
+    let at-if2 = at-take .before in
+    let at-before-y = at-if2 .before in
+    let at-read = at-before-y .before .before .before .before .before in
+    let at-if1 = at-read .before in
+    let at-place = at-if1 .before in
+    let at-loop-test = at-place .before in
+    let at-loop = at-loop-test .before in
+    rw (
+      ← at-loop .loop .inv .1,
+      lowFrom-suc auxiliaryKind _ _ _ _ (positive _ (at-loop-test .loop-test .taken)),
+      before-end _ _ _ (at-loop .before .before .pre) (at-place .place .ensures) (at-if1 .if1 .left),
+      ← at-place .place .ensures,
+      ← at-read .read .ensures,
+      ← at-before-y .before-y .ensures,
+      at-if2 .if2 .left,
+      ← at-take .take .ensures,
+      ← at-before-y2 .before-y2 .ensures,
+      c .before .if3 .taken,
+      ← c .before3 .ensures,
+    )
+
+-- src/count.rt:42:13
+visit-requires-2 : tie.Need-visit-requires-2 Inv-loop μ-loop
+visit-requires-2 c κs = search needs
+
+-- src/count.rt:23:5
+loop-less-2 : tie.Need-loop-less-2 Inv-loop μ-loop
+loop-less-2 c = search needs
+
+-- src/count.rt:23:5
+loop-again-2 : tie.Need-loop-again-2 Inv-loop μ-loop
+unfolding lowNode lowRecord
+loop-again-2 c =
+    let at-before-y2 = c .before .before in
+    let at-take = at-before-y2 .before in
+    let at-if2 = at-take .before in
+    let at-before-y = at-if2 .before in
+    let at-read = at-before-y .before .before .before .before .before in
+    let at-if1 = at-read .before in
+    let at-place = at-if1 .before in
+    let at-loop-test = at-place .before in
+    let at-loop = at-loop-test .before in (
+      omega (arith, at-loop .loop .inv .0),
+      rw (
+        ← at-loop .loop .inv .1,
+        lowFrom-suc auxiliaryKind _ _ _ _ (positive _ (at-loop-test .loop-test .taken)),
+        before-end _ _ _ (at-loop .before .before .pre) (at-place .place .ensures) (at-if1 .if1 .left),
+        ← at-place .place .ensures,
+        ← at-read .read .ensures,
+        ← at-before-y .before-y .ensures,
         at-if2 .if2 .left,
-        ← c .before .take2 .ensures,
+        ← at-take .take .ensures,
+        ← at-before-y2 .before-y2 .ensures,
+        c .before .if3 .left,
         ← c .visit2 .ensures,
       ),
     )
 
--- src/count.rt:49:5
+-- src/count.rt:46:5
 lost-requires-2 : tie.Need-lost-requires-2 Inv-loop μ-loop
 lost-requires-2 c κs = search needs
 
--- src/count.rt:18:1
+-- src/count.rt:16:1
 returns-3 : tie.Need-returns-3 Inv-loop μ-loop
 unfolding lowNode lowRecord
 returns-3 c = rw (
@@ -203,13 +203,13 @@ from-low-spec =
     read-requires
     before-y-requires
     before-requires
-    before-y-requires-2
     visit-requires
     loop-less
     loop-again
     take-requires
+    before-y-requires-2
+    before-requires-2
     returns-2
-    take-requires-2
     visit-requires-2
     loop-less-2
     loop-again-2

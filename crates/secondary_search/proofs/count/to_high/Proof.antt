@@ -22,23 +22,23 @@ Inv-loop t b node₀ tally₀ left₀ node tally left =
 abbrev μ-loop : tie.MeasureT-loop
 μ-loop t b node₀ tally₀ left₀ node tally left = left
 
--- src/count.rt:60:5
+-- src/count.rt:57:5
 loop-holds : tie.Need-loop-holds Inv-loop μ-loop
 loop-holds c = search needs
 
--- src/count.rt:61:9
+-- src/count.rt:58:9
 sub-left : tie.Need-sub-left Inv-loop μ-loop
 sub-left c = search needs
 
--- src/count.rt:62:13
+-- src/count.rt:59:13
 place-requires : tie.Need-place-requires Inv-loop μ-loop
 place-requires c κs = search needs
 
--- src/count.rt:64:13
+-- src/count.rt:61:13
 lost-requires : tie.Need-lost-requires Inv-loop μ-loop
 lost-requires c κs = search needs
 
--- src/count.rt:64:13
+-- src/count.rt:61:13
 returns : tie.Need-returns Inv-loop μ-loop
 unfolding highNode highRecord
 returns c =
@@ -52,109 +52,33 @@ returns c =
       ← c .lost .ensures,
     )
 
--- src/count.rt:66:13
+-- src/count.rt:63:13
 read-requires : tie.Need-read-requires Inv-loop μ-loop
 read-requires c κs =
     let at-place = c .before in
     let at-start = at-place .before .before .before .before in
     record-there (at-start .args .t .now) _ _ (at-start .pre) (at-place .place .ensures) (c .if1 .left)
 
--- src/count.rt:71:12
+-- src/count.rt:68:12
 past-y-requires : tie.Need-past-y-requires Inv-loop μ-loop
 past-y-requires c κs = search needs
 
--- src/count.rt:72:13
+-- src/count.rt:69:21
 past-requires : tie.Need-past-requires Inv-loop μ-loop
 past-requires c κs = search needs
 
--- src/count.rt:73:16
-past-y-requires-2 : tie.Need-past-y-requires-2 Inv-loop μ-loop
-past-y-requires-2 c κs = search needs
-
--- src/count.rt:74:17
+-- src/count.rt:69:13
 visit-requires : tie.Need-visit-requires Inv-loop μ-loop
 visit-requires c κs = search needs
 
--- src/count.rt:60:5
+-- src/count.rt:57:5
 loop-less : tie.Need-loop-less Inv-loop μ-loop
 loop-less c = search needs
 
--- src/count.rt:60:5
+-- src/count.rt:57:5
 loop-again : tie.Need-loop-again Inv-loop μ-loop
 unfolding highNode highRecord
 loop-again c =
-    let at-past-y2 = c .before .before in
-    let at-past = at-past-y2 .before in
-    let at-if2 = at-past .before in
-    let at-past-y = at-if2 .before in
-    let at-read = at-past-y .before .before .before .before .before in
-    let at-if1 = at-read .before in
-    let at-place = at-if1 .before in
-    let at-loop-test = at-place .before in
-    let at-loop = at-loop-test .before in (
-      omega (arith, at-loop .loop .inv .0),
-      rw (
-        ← at-loop .loop .inv .1,
-        highFrom-suc auxiliaryKind _ _ _ _ (positive _ (at-loop-test .loop-test .taken)),
-        before-end _ _ _ (at-loop .before .before .pre) (at-place .place .ensures) (at-if1 .if1 .left),
-        ← at-place .place .ensures,
-        ← at-read .read .ensures,
-        ← at-past-y .past-y .ensures,
-        at-if2 .if2 .taken,
-        ← at-past .past .ensures,
-        ← at-past-y2 .past-y2 .ensures,
-        c .before .if3 .taken,
-        ← c .visit .ensures,
-      ),
-    )
-
--- src/count.rt:77:17
-take-requires : tie.Need-take-requires Inv-loop μ-loop
-take-requires c κs = search needs
-
--- src/count.rt:77:17
-returns-2 : tie.Need-returns-2 Inv-loop μ-loop
-unfolding highNode highRecord
-returns-2 c =
-    let at-past-y2 = c .before .before in
-    let at-past = at-past-y2 .before in
-    let at-if2 = at-past .before in
-    let at-past-y = at-if2 .before in
-    let at-read = at-past-y .before .before .before .before .before in
-    let at-if1 = at-read .before in
-    let at-place = at-if1 .before in
-    let at-loop-test = at-place .before in
-    let at-loop = at-loop-test .before in
-    rw (
-      ← at-loop .loop .inv .1,
-      highFrom-suc auxiliaryKind _ _ _ _ (positive _ (at-loop-test .loop-test .taken)),
-      before-end _ _ _ (at-loop .before .before .pre) (at-place .place .ensures) (at-if1 .if1 .left),
-      ← at-place .place .ensures,
-      ← at-read .read .ensures,
-      ← at-past-y .past-y .ensures,
-      at-if2 .if2 .taken,
-      ← at-past .past .ensures,
-      ← at-past-y2 .past-y2 .ensures,
-      c .before .if3 .left,
-      ← c .take .ensures,
-    )
-
--- src/count.rt:80:21
-take-requires-2 : tie.Need-take-requires-2 Inv-loop μ-loop
-take-requires-2 c κs = search needs
-
--- src/count.rt:80:13
-visit-requires-2 : tie.Need-visit-requires-2 Inv-loop μ-loop
-visit-requires-2 c κs = search needs
-
--- src/count.rt:60:5
-loop-less-2 : tie.Need-loop-less-2 Inv-loop μ-loop
-loop-less-2 c = search needs
-
--- src/count.rt:60:5
-loop-again-2 : tie.Need-loop-again-2 Inv-loop μ-loop
-unfolding highNode highRecord
-loop-again-2 c =
     let at-if2 = c .before .before in
     let at-past-y = at-if2 .before in
     let at-read = at-past-y .before .before .before .before .before in
@@ -170,17 +94,93 @@ loop-again-2 c =
         ← at-place .place .ensures,
         ← at-read .read .ensures,
         ← at-past-y .past-y .ensures,
+        at-if2 .if2 .taken,
+        ← c .before .past .ensures,
+        ← c .visit .ensures,
+      ),
+    )
+
+-- src/count.rt:72:13
+take-requires : tie.Need-take-requires Inv-loop μ-loop
+take-requires c κs = search needs
+
+-- src/count.rt:73:16
+past-y-requires-2 : tie.Need-past-y-requires-2 Inv-loop μ-loop
+past-y-requires-2 c κs = search needs
+
+-- src/count.rt:74:17
+past-requires-2 : tie.Need-past-requires-2 Inv-loop μ-loop
+past-requires-2 c κs = search needs
+
+-- src/count.rt:74:17
+returns-2 : tie.Need-returns-2 Inv-loop μ-loop
+unfolding highNode highRecord
+returns-2 c =
+    let at-past-y2 = c .before .before in
+    let at-take = at-past-y2 .before in
+    let at-if2 = at-take .before in
+    let at-past-y = at-if2 .before in
+    let at-read = at-past-y .before .before .before .before .before in
+    let at-if1 = at-read .before in
+    let at-place = at-if1 .before in
+    let at-loop-test = at-place .before in
+    let at-loop = at-loop-test .before in
+    rw (
+      ← at-loop .loop .inv .1,
+      highFrom-suc auxiliaryKind _ _ _ _ (positive _ (at-loop-test .loop-test .taken)),
+      before-end _ _ _ (at-loop .before .before .pre) (at-place .place .ensures) (at-if1 .if1 .left),
+      ← at-place .place .ensures,
+      ← at-read .read .ensures,
+      ← at-past-y .past-y .ensures,
+      at-if2 .if2 .left,
+      ← at-take .take .ensures,
+      ← at-past-y2 .past-y2 .ensures,
+      c .before .if3 .taken,
+      ← c .past2 .ensures,
+    )
+
+-- src/count.rt:76:13
+visit-requires-2 : tie.Need-visit-requires-2 Inv-loop μ-loop
+visit-requires-2 c κs = search needs
+
+-- src/count.rt:57:5
+loop-less-2 : tie.Need-loop-less-2 Inv-loop μ-loop
+loop-less-2 c = search needs
+
+-- src/count.rt:57:5
+loop-again-2 : tie.Need-loop-again-2 Inv-loop μ-loop
+unfolding highNode highRecord
+loop-again-2 c =
+    let at-past-y2 = c .before .before in
+    let at-take = at-past-y2 .before in
+    let at-if2 = at-take .before in
+    let at-past-y = at-if2 .before in
+    let at-read = at-past-y .before .before .before .before .before in
+    let at-if1 = at-read .before in
+    let at-place = at-if1 .before in
+    let at-loop-test = at-place .before in
+    let at-loop = at-loop-test .before in (
+      omega (arith, at-loop .loop .inv .0),
+      rw (
+        ← at-loop .loop .inv .1,
+        highFrom-suc auxiliaryKind _ _ _ _ (positive _ (at-loop-test .loop-test .taken)),
+        before-end _ _ _ (at-loop .before .before .pre) (at-place .place .ensures) (at-if1 .if1 .left),
+        ← at-place .place .ensures,
+        ← at-read .read .ensures,
+        ← at-past-y .past-y .ensures,
         at-if2 .if2 .left,
-        ← c .before .take2 .ensures,
+        ← at-take .take .ensures,
+        ← at-past-y2 .past-y2 .ensures,
+        c .before .if3 .left,
         ← c .visit2 .ensures,
       ),
     )
 
--- src/count.rt:84:5
+-- src/count.rt:80:5
 lost-requires-2 : tie.Need-lost-requires-2 Inv-loop μ-loop
 lost-requires-2 c κs = search needs
 
--- src/count.rt:53:1
+-- src/count.rt:50:1
 returns-3 : tie.Need-returns-3 Inv-loop μ-loop
 unfolding highNode highRecord
 returns-3 c = rw (
@@ -203,13 +203,13 @@ to-high-spec =
     read-requires
     past-y-requires
     past-requires
-    past-y-requires-2
     visit-requires
     loop-less
     loop-again
     take-requires
+    past-y-requires-2
+    past-requires-2
     returns-2
-    take-requires-2
     visit-requires-2
     loop-less-2
     loop-again-2
