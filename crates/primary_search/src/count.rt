@@ -212,8 +212,8 @@ fn opened(t: &[u32], level: u32, capacity: u32, b: Box, start: Primary, from: Fi
     Figures::lost()
 }
 
-// The figures of the marks that the box holds of a tree whose level begins at `level`, with the visits, from its root's arm: of the table's tree, or of any that
-// stands in its words.
+// The figures of the marks that the box holds of a tree whose level begins at `level`, with the visits, from its root's arm: of the table's tree, or of any
+// that stands in its words.
 pub fn search(t: &[u32], level: u32, capacity: u32, b: Box, root: PrimaryArm) -> Figures
     requires { ⌜ slotsEnd capacity ≤ length (now t) ⌝ }
     ensures { λ r. ⌜ r .0 ≡ mainSearch♯ (now (t .entry)) capacity (boxValue b) level (primaryArm root) ⌝ }

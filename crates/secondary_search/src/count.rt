@@ -145,8 +145,8 @@ fn opened(t: &[u32], b: Box, start: Secondary, from: Figures) -> Figures
     Figures::lost()
 }
 
-// The figures of a tree's marks on the box's side, and the visits, onto a tally. Most trees that are handed over to begin before the side and end on it or past it:
-// two comparisons tell that such a one is opened.
+// The figures of a tree's marks on the box's side, and the visits, onto a tally. Most trees that are handed over to begin before the side and end on it or
+// past it: two comparisons tell that such a one is opened.
 pub fn count(t: &[u32], b: Box, root: SecondaryArm, from: Figures) -> Figures
     requires { ⌜ Records (now t) ⌝ }
     ensures { λ r. ⌜ r .0 ≡ count♯ (now (t .entry)) (records (now (t .entry))) (boxValue b) 0 (secondaryArm root) (from .0) ⌝ }
