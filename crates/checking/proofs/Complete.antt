@@ -101,12 +101,14 @@ module _ (xs : List ℕ) where
         let u : Tree ℕ (List ℕ) = h .tree in
         let e : a .tree ≡ u = Option·some-injective (a .tree) u (sym (a .is) ∙ h .is) in
         let bag : SameBag (marks u) (marks l ++ marks r) = subst (λ t. SameBag (marks t) (marks l ++ marks r)) e (a .bag) in
-        let many : weight u ≡ weight l + weight r = weight-marks u ∙ sameBag-length (marks u) (marks l ++ marks r) bag ∙ sym (weight-marks (node i l r)) in
+        let many : weight u ≡ weight l + weight r = weight-marks u ∙ sameBag-length (marks u) (marks l ++ marks r) bag
+        ∙ sym (weight-marks (node i l r)) in
         let there : levelEnd (levelPlace C d) C ≤ length xs =
         omega (arith, two-level C d (length xs) small low long .room (C - 1) (omega (arith, held-least (h .held)))) in
         rw (le-ltb (length xs) (levelEnd (levelPlace C d) C) there, h .arm, eq-eqb (weight u) (weight l + weight r) many)
         (auxiliary-walk d (least l) (greatest r) u (subst (λ t. Sorted (slotAxis f alongY) (marks t)) e (a .sorted)) (subst Balanced e (a .balanced))
-        (all-alike (auxiliarySlot♯ C n (least l) (greatest r) xs) (marks l ++ marks r) (marks u) (λ p. sym (bag p)) (auxiliary-slots (node i l r) sorted live))
+        (all-alike (auxiliarySlot♯ C n (least l) (greatest r) xs) (marks l ++ marks r) (marks u) (λ p. sym (bag p))
+        (auxiliary-slots (node i l r) sorted live))
         (h .held))
 
     -- the nodes of a main tree whose root is at depth d

@@ -32,7 +32,8 @@ module _ (xs : List ℕ) where
         let f : ℕ → Mark = slotMark xs in
         omega (arith, times-pass (λ q. same (f s) (f q)) s (sheet-sameness .self (f s)) l, sorted-distinct (slotSameness f) (slotAxis-laws f sheet A O) k s)
 
-    pub walked-held : {I : Type 0} {place : ℕ → ℕ} {slot : ℕ → Bool} {next : ℕ → ℕ} {test : ℕ → ℕ → ℕ → NodeTest} {base : ℕ} {t : Tree ℕ I} (C : ℕ)
+    pub walked-held : {I : Type 0} {place : ℕ → ℕ} {slot : ℕ → Bool} {next : ℕ → ℕ} {test : ℕ → ℕ → ℕ → NodeTest}
+        {base : ℕ} {t : Tree ℕ I} (C : ℕ)
         → ((s : ℕ) → slot s ≡ true → s < C) → Walked A place slot next test xs base t → Held A (slotMark xs) place C xs t
     walked-held C inC w = record {
       once = sorted-once (w .sorted);

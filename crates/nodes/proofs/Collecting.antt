@@ -32,7 +32,8 @@ module _ {I : Type 0} (A : Axis Mark Box) (f : ℕ → Mark) (place : ℕ → �
   pub collect-holds : (but fuel : ℕ) (t : Tree ℕ I) (w taken : ℕ) (xs : List ℕ) → w ≡ weight t → Region place C (length xs)
       → Held A f place C xs t
       → depth t < fuel → taken + weight t ≤ C
-      → collect♯ fuel place C but w (number t) taken xs ≡ after (taken + length (without but (marks t))) (sets xs (runPlace C taken) (without but (marks t)))
+      → collect♯ fuel place C but w (number t) taken xs
+      ≡ after (taken + length (without but (marks t))) (sets xs (runPlace C taken) (without but (marks t)))
   unfolding collect♯ collectAt collectLeaf collectInner collectBoth collectParts
   collect-holds but zero t w taken xs e g h d k = absurd (omega arith)
   collect-holds but (suc n) (leaf s) w taken xs e g h d k =

@@ -199,7 +199,8 @@ module _ {I : Type 0} (A : Axis Mark Box) (f : ℕ → Mark) where
 
 -- What an operation leaves: the arm of a tree that the words hold, and all words as they were but for the records of the tree's names and run A.
 pub record Leaves
-    {I : Type 0} (A : Axis Mark Box) (f : ℕ → Mark) (place : ℕ → ℕ) (C : ℕ) (xs : List ℕ) (a : Arm) (ys : List ℕ) (t : Tree ℕ I) : Type 0 where
+    {I : Type 0} (A : Axis Mark Box) (f : ℕ → Mark) (place : ℕ → ℕ) (C : ℕ) (xs : List ℕ)
+    (a : Arm) (ys : List ℕ) (t : Tree ℕ I) : Type 0 where
   pub is : a ≡ armOf A f t
   pub held : Held A f place C ys t
   pub frame : Frame place (Names t) (runPlace C 0) (runPlace C C) xs ys

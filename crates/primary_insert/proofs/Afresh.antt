@@ -66,7 +66,8 @@ module _ {f : ℕ → Mark} {C s : ℕ} (small : C ≤ 65536) (inC : s < C) wher
     module _ (fits : d + depth fresh ≤ D C) where
       fresh-leaves : TwoLeaves f C d putWords (rebuilding .out .arm) (rebuilding .words) fresh
       fresh-leaves =
-          rebuild-leaves (grow f s t) putWords d₀ d (put-leaves .held) (omega (arith, insert-depth (X f) (R f) s t)) (insert-ordered f s t (k .new) (k .rules))
+          rebuild-leaves (grow f s t) putWords d₀ d (put-leaves .held) (omega (arith, insert-depth (X f) (R f) s t))
+          (insert-ordered f s t (k .new) (k .rules))
           (put-frame .long ∙ k .long) fits
 
       afresh-words : mainAfresh♯ C (f s) s (levelPlace C d) at xs ≡ after (weight (grow f s t)) (putArm (rebuilding .words) at (rebuilding .out .arm))

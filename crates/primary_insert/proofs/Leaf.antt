@@ -97,7 +97,8 @@ module _ {f : ℕ → Mark} {C s : ℕ} (small : C ≤ 65536) (inC : s < C) wher
         auxiliary-grown f C s d b loneWords (q ∷ []) small inC low pair-named (lone-frame .long ∙ pair-long)
         (beneath-mark C d b pair-named pair-within lone-frame s inC ∙ pair-marked s has-slot) (k .new) (some (leaf q)) lone-holds lone-auxiliary
 
-    pair-frame : FrameAt (recordPlace (levelPlace C d)) (λ p. 0 < timesIn p (s ∷ q ∷ [])) (auxiliaryPlace b) (runPlace C 0) (runPlace C C) ys (paired .words)
+    pair-frame : FrameAt (recordPlace (levelPlace C d)) (λ p. 0 < timesIn p (s ∷ q ∷ []))
+        (auxiliaryPlace b) (runPlace C 0) (runPlace C C) ys (paired .words)
     pair-frame = unchanged-trans lone-frame (pair-grown .frame)
 
     pair-twoFrame : TwoFrame C d (Names pair) (λ p. 0 < times p pair) 0 0 ys (paired .words)

@@ -184,7 +184,8 @@ module _ (f : ℕ → Mark) (C : ℕ) (xs : List ℕ) where
   search-holds d n t h k g small deep few room b fine hv =
       let found = searchedMain f b t in
       let many = rules-found f b t k counting counting-laws ∙ total-count (λ s. holds b (f s)) (marks t) in
-      let weighs : found .found counting ≤ 65536 = omega (arith, many, countIf-length (λ s. holds b (f s)) (marks t), weight-marks t, held-weight (h .main)) in
+      let weighs : found .found counting ≤ 65536 =
+      omega (arith, many, countIf-length (λ s. holds b (f s)) (marks t), weight-marks t, held-weight (h .main)) in
       let graded = rules-found f b t k (slotOperation f grading) (slotOperation-laws f sheet grading grading-laws) in
       let light = passing-small (λ s. f s .grade) (λ s. holds b (f s)) g (omega (arith, weight-marks t, held-weight (h .main))) in
       count-tree f b C xs fine small d t (omega arith) (ready f C xs small n room d t deep h k) g (k .sorted)

@@ -77,7 +77,8 @@ fn list_beneath(
     fuel: u32,
 ) -> u64
     requires { ⌜ slotsEnd capacity ≤ length (now t) ⌝ }
-    ensures { λ r. ⌜ after r (now (out .exit)) ≡ listBeneath♯ fuel (now (t .entry)) capacity (boxValue b) most base (primaryArm a) tally (now (out .entry)) ⌝ }
+    ensures { λ r. ⌜ after r (now (out .exit))
+        ≡ listBeneath♯ fuel (now (t .entry)) capacity (boxValue b) most base (primaryArm a) tally (now (out .entry)) ⌝ }
 {
     if fuel == 0 {
         return limits::LOST;

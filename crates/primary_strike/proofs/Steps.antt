@@ -214,5 +214,6 @@ module _ (f : ℕ → Mark) (C : ℕ) (small : C ≤ 65536) (s : ℕ) where
           λ z. rules-auxiliary-times f (of .0) (u .is) z ∙ ap (λ r. timesIn z (marks l ++ r)) (sym (rebalance-marks X R r′)) in
           even-leaves d j l m (u .tree) xs (struck .words) (p .words) (struck .out) ln (u .is) same (u .leaves) (q .leaves .frame)
           (λ z n. names-right j l m apart z (n .0)) (λ z n. omega (arith, times-node z j l m)) apart
-          (kept-sibling (suc d) m l (q .leaves .frame) (λ z n. q .leaves .held .main .within z n) (λ z. omega (arith, apart z)) (b .auxiliaries .1) struck-left)
+          (kept-sibling (suc d) m l (q .leaves .frame) (λ z n. q .leaves .held .main .within z n)
+          (λ z. omega (arith, apart z)) (b .auxiliaries .1) struck-left)
           (q .leaves .held) (b .auxiliaries .1) (struck-rules f s k (rules-right f b) .auxiliaries)

@@ -62,7 +62,8 @@ module _ (f : ℕ → Mark) (C : ℕ) (small : C ≤ 65536) (s : ℕ) where
 
   -- `rec` strikes t to t′ at depth d
   abbrev StruckBy : MainStriking → ℕ → SlotMain → SlotMain → Type 0
-  StruckBy rec d t t′ = (xs : List ℕ) → length xs ≡ W C → TwoFold f C d xs t → LeavesMain f C s d xs t t′ (rec (levelPlace C d) (weight t) (number t) xs)
+  StruckBy rec d t t′ =
+      (xs : List ℕ) → length xs ≡ W C → TwoFold f C d xs t → LeavesMain f C s d xs t t′ (rec (levelPlace C d) (weight t) (number t) xs)
 
   -- the mirror at an inner node of depth d strikes the left child, or the right one
   module _ (rec : MainStriking) (d : ℕ) (l r : SlotMain) (xs : List ℕ) where

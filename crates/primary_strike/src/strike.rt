@@ -181,7 +181,8 @@ fn strike_beneath(
     fuel: u32,
 ) -> Struck
     requires { ⌜ runsEnd capacity ≤ length (now t) ⌝ }
-    ensures { λ u. ⌜ after (mainStruckValue u) (now (t .exit)) ≡ strikeBeneath♯ fuel capacity (markValue m) s base weight (node .0) (now (t .entry)) ⌝ }
+    ensures { λ u. ⌜ after (mainStruckValue u) (now (t .exit))
+        ≡ strikeBeneath♯ fuel capacity (markValue m) s base weight (node .0) (now (t .entry)) ⌝ }
 {
     if fuel == 0 {
         return damaged();

@@ -80,7 +80,8 @@ pub data OwnUpdate (c : Call) (xs : List ℕ) : Answer → List ℕ → Type 0 w
       → OwnUpdate c xs (refusal n 0) (own xs)
   closes : {ws : List ℕ} → (SoundTable (own xs) → ⊥) → getD ws openPlace 0 ≡ 0 → OwnUpdate c xs (refusal 4 0) ws
   accepts : {ws : List ℕ} {live rebuilt : ℕ} → Later xs c (updated live rebuilt)
-      → ((T : Main) → Holding (own xs) T → (updated live rebuilt ≡ answer c (stateOf (own xs) T)) × (capacityOf ws ≡ next c (stateOf (own xs) T) .capacity)
+      → ((T : Main) → Holding (own xs) T → (updated live rebuilt ≡ answer c (stateOf (own xs) T))
+      × (capacityOf ws ≡ next c (stateOf (own xs) T) .capacity)
       × Holding ws (next c (stateOf (own xs) T) .tree))
       → ((T : Main) → Holding (own xs) T → Spares (own xs) ws)
       → OwnUpdate c xs (updated live rebuilt) ws

@@ -171,7 +171,8 @@ module _ (m : Mark) (on : markOutside m ≡ false) (xs : List ℕ) (small : capa
     unfolding settledAfter settled♯ closed♯
     settle-strike =
         by-cases (eqb (q .out) damaged)
-        (λ t. rw t (closes (λ k. strike-sound ws (k .tree) (k .holding) m (stands (k .tree) (k .holding)) .2 (eqb-true (q .out) damaged t)) (shut (q .words))))
+        (λ t. rw t (closes (λ k. strike-sound ws (k .tree) (k .holding) m (stands (k .tree) (k .holding)) .2 (eqb-true (q .out) damaged t))
+        (shut (q .words))))
         (λ f. rw f (accepts (strikes (find-finds ws m fine old)) strike-goes (λ T h. strike-unused ws T h m (stands T h))))
 
   strike-own : OwnUpdate (history.strike m) xs (strikeOwn♯ m ws .out) (strikeOwn♯ m ws .words)

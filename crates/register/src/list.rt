@@ -29,7 +29,8 @@ fn list_marks(
     second: &mut [u32],
     k: u32,
 ) -> Listing
-    requires { ⌜ OfCapacity capacity (now t) × (most ≤ mostVisits) × (k ≤ 65536) × (listPlace k ≤ length (now first)) × (listPlace k ≤ length (now second)) ⌝ }
+    requires { ⌜ OfCapacity capacity (now t) × (most ≤ mostVisits) × (k ≤ 65536)
+        × (listPlace k ≤ length (now first)) × (listPlace k ≤ length (now second)) ⌝ }
     ensures { λ r. ⌜ ListedOwn (boxValue b) most k (now (t .entry)) (now (first .entry)) (now (second .entry))
         (now (first .exit)) (now (second .exit)) (listFigures r) ⌝ }
 {

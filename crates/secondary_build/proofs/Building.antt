@@ -117,7 +117,8 @@ module _
       }
 
 module _ {I : Type 0} (A : Axis Mark Box) (f : ℕ → Mark) (place : ℕ → ℕ) (C : ℕ) where
-  leaf-built : (s i : ℕ) (xs : List ℕ) → Region place C (length xs) → Run f C i (s ∷ []) xs → Built {I = I} A f place C xs (build♯ A 1 place C i 1 xs) (leaf s)
+  leaf-built : (s i : ℕ) (xs : List ℕ) → Region place C (length xs) → Run f C i (s ∷ []) xs
+      → Built {I = I} A f place C xs (build♯ A 1 place C i 1 xs) (leaf s)
   unfolding runLeaf
   leaf-built s i xs g u =
       let here : 0 < timesIn s (s ∷ []) = times-least {I = I} (leaf s) in

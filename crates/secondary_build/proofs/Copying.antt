@@ -97,7 +97,8 @@ module _ (from to : ℕ → ℕ) (C n : ℕ) (g : Region to C n)
         let hr = old-held (cl .frame) (λ s p. cl .held .within s (p .0)) A f r (old-held a (λ s e. rw e inC) A f r (held-right h)) in
         let zs : List ℕ = copy♯ k C from to (number l) ys in
         let cr = copy-copies k r zs (cl .frame .long ∙ a .long ∙ ln) hr (omega arith) in
-        rw (ne-eqb ((2 * least r + 1) % 2) 0 odd, half, lt-leb C name inC, h .records .0) (node-copies i l r xs zs (copy♯ k C from to (number r) zs) ln h cl cr)
+        rw (ne-eqb ((2 * least r + 1) % 2) 0 odd, half, lt-leb C name inC, h .records .0)
+        (node-copies i l r xs zs (copy♯ k C from to (number r) zs) ln h cl cr)
 
 module _ {I : Type 0} (A : Axis Mark Box) (f : ℕ → Mark) (from to : ℕ → ℕ) (C : ℕ) where
   pub copy-holds : (fuel : ℕ) (t : Tree ℕ I) (xs : List ℕ) → Region to C (length xs)

@@ -84,7 +84,8 @@ pub fn rebuild(
     many: u32,
 ) -> SecondaryArm
     requires { ⌜ (runsEnd capacity ≤ length (now t)) × (levelEnd base capacity ≤ length (now t)) ⌝ }
-    ensures { λ r. ⌜ after (secondaryArm r) (now (t .exit)) ≡ rebuild♯ alongY (recordPlace base) capacity but many weight (node .0) (now (t .entry)) ⌝ }
+    ensures { λ r. ⌜ after (secondaryArm r) (now (t .exit))
+        ≡ rebuild♯ alongY (recordPlace base) capacity but many weight (node .0) (now (t .entry)) ⌝ }
 {
     if node.gather(t, base, capacity, weight, but, many) {
         return build(t, base, capacity, 0, many);

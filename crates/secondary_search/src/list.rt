@@ -67,7 +67,8 @@ fn list_beneath(
     fuel: u32,
 ) -> u64
     requires { ⌜ (slotsEnd capacity ≤ length (now t)) × (levelEnd base capacity ≤ length (now t)) ⌝ }
-    ensures { λ r. ⌜ after r (now (out .exit)) ≡ list♯ fuel (now (t .entry)) capacity base (boxValue b) most (secondaryArm a) tally (now (out .entry)) ⌝ }
+    ensures { λ r. ⌜ after r (now (out .exit))
+        ≡ list♯ fuel (now (t .entry)) capacity base (boxValue b) most (secondaryArm a) tally (now (out .entry)) ⌝ }
 {
     if fuel == 0 {
         return limits::LOST;

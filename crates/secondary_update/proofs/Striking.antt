@@ -204,7 +204,8 @@ module _ {I : Type 0} (A : Axis Mark Box) (f : ℕ → Mark) (R : Register ℕ B
   unfolding strikeAfresh freshStrike strikeOf
   afresh-holds d t t′ xs k g h deep e n =
       let w : weight t - 1 ≡ weight t′ = omega (arith, strikes-weight A f s R k) in
-      let a = rebuild-holds A f place C R s (weight t′) d t (marks t′) xs g h deep (strikes-marks A f s R k (h .once)) (marks-pos t′) (weight-marks t′) in
+      let a = rebuild-holds A f place C R s (weight t′) d t (marks t′) xs g h deep
+      (strikes-marks A f s R k (h .once)) (marks-pos t′) (weight-marks t′) in
       rw w record {
         leaves = rw e (a .0);
         figure = sym n;

@@ -81,7 +81,8 @@ module _ {C d : ℕ} {P Q : ℕ → Type 0} (xs : List ℕ) where
   arm-twoFrame at a = unchanged-weaken (λ i o. o .spot) (putArm-unchanged xs at a)
 
   pub auxiliary-twoFrame : (name : ℕ) (a : Arm) → P name → TwoFrame C d P Q 0 0 xs (putArm xs (auxiliaryPlace name) a)
-  auxiliary-twoFrame name a own = unchanged-weaken (λ i o k. omega (arith, o .tree .nodes name own (omega arith))) (putArm-unchanged xs (auxiliaryPlace name) a)
+  auxiliary-twoFrame name a own =
+      unchanged-weaken (λ i o k. omega (arith, o .tree .nodes name own (omega arith))) (putArm-unchanged xs (auxiliaryPlace name) a)
 
   pub record-twoFrame : (name : ℕ) (l r : Arm) → P name → TwoFrame C d P Q 0 0 xs (putRecord xs (mainPlace name) l r)
   record-twoFrame name l r own = unchanged-weaken (λ i o k. omega (arith, o .tree .nodes name own k)) (putRecord-unchanged xs (mainPlace name) l r)

@@ -18,7 +18,8 @@ use Rattle.twofold_layout.proofs.Stands.{stands-marks}
 -- the live marks are the slots of the tree, and so no more than the capacity
 pub live-slots : {xs : List ℕ} {T : Main} (h : Holding xs T) → liveOf xs ≡ length (marksOf (h .slots))
 live-slots {xs = xs} h =
-    h .live ∙ ap (λ T. length (marksOf T)) (sym (h .stands)) ∙ ap length (stands-marks (slotMark xs) (h .slots)) ∙ length-map (marksOf (h .slots)) (slotMark xs)
+    h .live ∙ ap (λ T. length (marksOf T)) (sym (h .stands))
+    ∙ ap length (stands-marks (slotMark xs) (h .slots)) ∙ length-map (marksOf (h .slots)) (slotMark xs)
 
 pub live-within : {xs : List ℕ} {T : Main} → Holding xs T → liveOf xs ≤ capacityOf xs
 live-within {xs = xs} h = rw (live-slots h) (go (h .slots) (h .holds))

@@ -4,15 +4,12 @@ use borrow.Author.Needs.{needs}
 use Rattle.markregister.proofs.register_check.Statement.{statement}
 use Rattle.markregister.proofs.register_check.Tie as tie
 
--- src/lib.rt:114:13
 check-requires : tie.Need-check-requires
 check-requires c κs = search needs
 
--- src/lib.rt:114:9
 figures-requires : tie.Need-figures-requires
 figures-requires c κs = search needs
 
--- src/lib.rt:110:1
 returns : tie.Need-returns
 returns c = subst (Performs _ _ _) (sym (c .figures .ensures)) (c .before .check .ensures)
 

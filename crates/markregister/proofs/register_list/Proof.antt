@@ -3,23 +3,18 @@ use borrow.Author.Needs.{needs}
 use Rattle.markregister.proofs.register_list.Statement.{statement}
 use Rattle.markregister.proofs.register_list.Tie as tie
 
--- src/lib.rt:103:13
 list-requires : tie.Need-list-requires
 list-requires c κs = search needs
 
--- src/lib.rt:103:9
 figures-requires : tie.Need-figures-requires
 figures-requires c κs = search needs
 
--- src/lib.rt:84:1
 same-length : tie.Need-same-length
 same-length c = search needs
 
--- src/lib.rt:84:1
 same-length-2 : tie.Need-same-length-2
 same-length-2 c = search needs
 
--- src/lib.rt:84:1
 returns : tie.Need-returns
 returns c = list-given _ _ _ _ _ _ _ (c .figures .ensures) (c .before .before .before .before .before .list .ensures)
 

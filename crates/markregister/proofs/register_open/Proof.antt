@@ -4,19 +4,15 @@ use borrow.Author.Needs.{needs}
 use Rattle.markregister.proofs.register_open.Statement.{statement}
 use Rattle.markregister.proofs.register_open.Tie as tie
 
--- src/lib.rt:24:13
 open-requires : tie.Need-open-requires
 open-requires c κs = search needs
 
--- src/lib.rt:24:9
 figures-requires : tie.Need-figures-requires
 figures-requires c κs = search needs
 
--- src/lib.rt:19:1
 same-length : tie.Need-same-length
 same-length c = search needs
 
--- src/lib.rt:19:1
 returns : tie.Need-returns
 returns c = subst (Performs _ _ _) (sym (c .figures .ensures)) (c .before .before .before .«open» .ensures)
 

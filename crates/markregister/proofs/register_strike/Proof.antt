@@ -4,19 +4,15 @@ use borrow.Author.Needs.{needs}
 use Rattle.markregister.proofs.register_strike.Statement.{statement}
 use Rattle.markregister.proofs.register_strike.Tie as tie
 
--- src/lib.rt:59:13
 strike-requires : tie.Need-strike-requires
 strike-requires c κs = search needs
 
--- src/lib.rt:59:9
 figures-requires : tie.Need-figures-requires
 figures-requires c κs = search needs
 
--- src/lib.rt:47:1
 same-length : tie.Need-same-length
 same-length c = search needs
 
--- src/lib.rt:47:1
 returns : tie.Need-returns
 returns c = subst (Performs _ _ _) (sym (c .figures .ensures)) (c .before .before .before .strike .ensures)
 

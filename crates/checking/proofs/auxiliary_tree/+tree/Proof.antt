@@ -53,23 +53,23 @@ said t = (
   over-reads.Learnt,
 )
 
--- src/auxiliary_tree.rt:91:9
+-- src/auxiliary_tree.rt:83:9
 tree-none-requires : (t : ℕ) → tree-lts.Need-none-requires (said t) (tree-at t) tree.Post
 tree-none-requires t c κs = search needs
 
--- src/auxiliary_tree.rt:91:9
+-- src/auxiliary_tree.rt:83:9
 tree-returns : (t : ℕ) → tree-lts.Need-returns (said t) (tree-at t) tree.Post
 tree-returns t c = rw (auxiliarySpan♯-zero _ (c .before .if1 .taken), ← c .none .ensures)
 
--- src/auxiliary_tree.rt:94:9
+-- src/auxiliary_tree.rt:86:9
 tree-slot-requires : (t : ℕ) → tree-lts.Need-slot-requires (said t) (tree-at t) tree.Post
 tree-slot-requires t c κs = search needs
 
--- src/auxiliary_tree.rt:96:9
+-- src/auxiliary_tree.rt:88:9
 tree-none-requires-2 : (t : ℕ) → tree-lts.Need-none-requires-2 (said t) (tree-at t) tree.Post
 tree-none-requires-2 t c κs = search needs
 
--- src/auxiliary_tree.rt:96:9
+-- src/auxiliary_tree.rt:88:9
 tree-returns-2 : (t : ℕ) → tree-lts.Need-returns-2 (said t) (tree-at t) tree.Post
 unfolding spanStep
 tree-returns-2 t c =
@@ -82,15 +82,15 @@ tree-returns-2 t c =
       ← c .none2 .ensures,
     )
 
--- src/auxiliary_tree.rt:98:8
+-- src/auxiliary_tree.rt:90:8
 tree-is-leaf-requires : (t : ℕ) → tree-lts.Need-is-leaf-requires (said t) (tree-at t) tree.Post
 tree-is-leaf-requires t c κs = search needs
 
--- src/auxiliary_tree.rt:99:9
+-- src/auxiliary_tree.rt:91:9
 tree-leaf-requires : (t : ℕ) → tree-lts.Need-leaf-requires (said t) (tree-at t) tree.Post
 tree-leaf-requires t c κs = search needs
 
--- src/auxiliary_tree.rt:99:9
+-- src/auxiliary_tree.rt:91:9
 tree-returns-3 : (t : ℕ) → tree-lts.Need-returns-3 (said t) (tree-at t) tree.Post
 unfolding spanStep
 tree-returns-3 t c =
@@ -107,31 +107,31 @@ tree-returns-3 t c =
       ← c .leaf .ensures,
     )
 
--- src/auxiliary_tree.rt:101:9
+-- src/auxiliary_tree.rt:93:9
 tree-load-requires : (t : ℕ) → tree-lts.Need-load-requires (said t) (tree-at t) tree.Post
 tree-load-requires t c κs = search needs
 
--- src/auxiliary_tree.rt:104:19
+-- src/auxiliary_tree.rt:96:19
 tree-bare-requires : (t : ℕ) → tree-lts.Need-bare-requires (said t) (tree-at t) tree.Post
 tree-bare-requires t c κs = search needs
 
--- src/auxiliary_tree.rt:104:35
+-- src/auxiliary_tree.rt:96:35
 tree-bare-requires-2 : (t : ℕ) → tree-lts.Need-bare-requires-2 (said t) (tree-at t) tree.Post
 tree-bare-requires-2 t c κs = search needs
 
--- src/auxiliary_tree.rt:104:45
+-- src/auxiliary_tree.rt:96:45
 tree-bare-requires-3 : (t : ℕ) → tree-lts.Need-bare-requires-3 (said t) (tree-at t) tree.Post
 tree-bare-requires-3 t c κs = search needs
 
--- src/auxiliary_tree.rt:104:8
+-- src/auxiliary_tree.rt:96:8
 tree-fits-requires : (t : ℕ) → tree-lts.Need-fits-requires (said t) (tree-at t) tree.Post
 tree-fits-requires t c κs = search needs
 
--- src/auxiliary_tree.rt:105:63
+-- src/auxiliary_tree.rt:97:63
 tree-sub-tree : (t : ℕ) → tree-lts.Need-sub-tree (said t) (tree-at t) tree.Post
 tree-sub-tree t c = search needs
 
--- src/auxiliary_tree.rt:105:13
+-- src/auxiliary_tree.rt:97:13
 tree-tree-requires : (t : ℕ) → tree-lts.Need-tree-requires (said t) (tree-at t) tree.Post
 tree-tree-requires t c κs =
     let at-r = c .before .before .before .before .before in
@@ -140,7 +140,7 @@ tree-tree-requires t c κs =
     let at-start = at-if1 .before .before in
     search (needs, at-if1 .if1 .left, at-start .pre)
 
--- src/auxiliary_tree.rt:106:63
+-- src/auxiliary_tree.rt:98:63
 tree-sub-tree-2 : (t : ℕ) → tree-lts.Need-sub-tree-2 (said t) (tree-at t) tree.Post
 tree-sub-tree-2 t c =
     let at-bare = c .before .before .before .before .before in
@@ -149,7 +149,7 @@ tree-sub-tree-2 t c =
     let at-start = at-if1 .before .before in
     search (needs, at-if1 .if1 .left, at-start .pre)
 
--- src/auxiliary_tree.rt:106:13
+-- src/auxiliary_tree.rt:98:13
 tree-tree-requires-2 : (t : ℕ) → tree-lts.Need-tree-requires-2 (said t) (tree-at t) tree.Post
 tree-tree-requires-2 t c κs =
     let at-bare = c .before .before .before .before .before in
@@ -158,7 +158,7 @@ tree-tree-requires-2 t c κs =
     let at-start = at-if1 .before .before in
     search (needs, at-if1 .if1 .left, at-start .pre)
 
--- src/auxiliary_tree.rt:107:9
+-- src/auxiliary_tree.rt:99:9
 tree-over-requires : (t : ℕ) → tree-lts.Need-over-requires (said t) (tree-at t) tree.Post
 tree-over-requires t c κs =
     let at-bare = c .before .before .before .before .before .before in
@@ -169,7 +169,7 @@ tree-over-requires t c κs =
     (auxiliary-within _ _ _ _ _ _ some _ _ .1) in
     omega (arith, last, at-if2 .if2 .left, at-start .pre)
 
--- src/auxiliary_tree.rt:107:9
+-- src/auxiliary_tree.rt:99:9
 tree-returns-4 : (t : ℕ) → tree-lts.Need-returns-4 (said t) (tree-at t) tree.Post
 unfolding spanStep spanNode
 tree-returns-4 t c =
@@ -202,11 +202,11 @@ tree-returns-4 t c =
       ← c .over .ensures,
     )
 
--- src/auxiliary_tree.rt:109:5
+-- src/auxiliary_tree.rt:101:5
 tree-none-requires-3 : (t : ℕ) → tree-lts.Need-none-requires-3 (said t) (tree-at t) tree.Post
 tree-none-requires-3 t c κs = search needs
 
--- src/auxiliary_tree.rt:77:1
+-- src/auxiliary_tree.rt:69:1
 tree-returns-5 : (t : ℕ) → tree-lts.Need-returns-5 (said t) (tree-at t) tree.Post
 unfolding spanStep spanNode
 tree-returns-5 t c =

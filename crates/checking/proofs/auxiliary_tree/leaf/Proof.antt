@@ -5,31 +5,24 @@ use Rattle.checking.specs.Span.{spanLeaf}
 use mathlib.Core.Logic.{⊎-elim}
 use Rattle.checking.proofs.auxiliary_tree.leaf.Tie as tie
 
--- src/auxiliary_tree.rt:53:8
 may-stand-requires : tie.Need-may-stand-requires
 may-stand-requires c κs = search needs
 
--- src/auxiliary_tree.rt:54:13
 load-requires : tie.Need-load-requires
 load-requires c κs = search needs
 
--- src/auxiliary_tree.rt:55:23
 bare-requires : tie.Need-bare-requires
 bare-requires c κs = search needs
 
--- src/auxiliary_tree.rt:55:33
 leaf-requires : tie.Need-leaf-requires
 leaf-requires c κs = search needs
 
--- src/auxiliary_tree.rt:55:12
 same-requires : tie.Need-same-requires
 same-requires c κs = search needs
 
--- src/auxiliary_tree.rt:56:13
 between-requires : tie.Need-between-requires
 between-requires c κs = search needs
 
--- src/auxiliary_tree.rt:56:13
 returns : tie.Need-returns
 unfolding auxiliarySlot♯ spanLeaf
 returns c =
@@ -50,11 +43,9 @@ returns c =
       ← c .between .ensures,
     )
 
--- src/auxiliary_tree.rt:59:5
 none-requires : tie.Need-none-requires
 none-requires c κs = search needs
 
--- src/auxiliary_tree.rt:41:1
 returns-2 : tie.Need-returns-2
 unfolding auxiliarySlot♯ spanLeaf
 returns-2 c =

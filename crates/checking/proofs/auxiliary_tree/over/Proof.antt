@@ -4,27 +4,27 @@ use Rattle.checking.specs.Span.{spanOver}
 use mathlib.Core.Logic.{⊎-elim}
 use Rattle.checking.proofs.auxiliary_tree.over.Tie as tie
 
--- src/auxiliary_tree.rt:67:8
+-- src/auxiliary_tree.rt:59:8
 joins-requires : tie.Need-joins-requires
 joins-requires c κs = search needs
 
--- src/auxiliary_tree.rt:68:13
+-- src/auxiliary_tree.rt:60:13
 load-requires : tie.Need-load-requires
 load-requires c κs = search needs
 
--- src/auxiliary_tree.rt:69:22
+-- src/auxiliary_tree.rt:61:22
 load-requires-2 : tie.Need-load-requires-2
 load-requires-2 c κs = search needs
 
--- src/auxiliary_tree.rt:69:12
+-- src/auxiliary_tree.rt:61:12
 below-y-requires : tie.Need-below-y-requires
 below-y-requires c κs = search needs
 
--- src/auxiliary_tree.rt:70:13
+-- src/auxiliary_tree.rt:62:13
 between-requires : tie.Need-between-requires
 between-requires c κs = search needs
 
--- src/auxiliary_tree.rt:70:13
+-- src/auxiliary_tree.rt:62:13
 returns : tie.Need-returns
 unfolding spanOver
 returns c =
@@ -43,11 +43,11 @@ returns c =
       ← c .between .ensures,
     )
 
--- src/auxiliary_tree.rt:73:5
+-- src/auxiliary_tree.rt:65:5
 none-requires : tie.Need-none-requires
 none-requires c κs = search needs
 
--- src/auxiliary_tree.rt:63:1
+-- src/auxiliary_tree.rt:55:1
 returns-2 : tie.Need-returns-2
 unfolding spanOver
 returns-2 c =

@@ -8,11 +8,11 @@ use Rattle.checking.specs.Verdict.{Verdict}
 use Rattle.checking.proofs.Exact.{check-exact}
 use Rattle.checking.proofs.check.check.Tie as tie
 
--- src/check.rt:50:5
+-- src/check.rt:63:5
 live-marks-requires : tie.Need-live-marks-requires
 live-marks-requires c κs = search needs
 
--- src/check.rt:47:1
+-- src/check.rt:60:1
 returns : tie.Need-returns
 returns c =
     let xs : List ℕ = now (c .before .before .args .t) in

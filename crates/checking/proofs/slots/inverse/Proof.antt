@@ -14,23 +14,23 @@ Inv-loop t capacity left₀ left = (left ≤ capacity) × (inverse♯ left capac
 abbrev μ-loop : tie.MeasureT-loop
 μ-loop t capacity left₀ left = left
 
--- src/slots.rt:32:5
+-- src/slots.rt:31:5
 loop-holds : tie.Need-loop-holds Inv-loop μ-loop
 loop-holds c = search needs
 
--- src/slots.rt:33:9
+-- src/slots.rt:32:9
 sub-left : tie.Need-sub-left Inv-loop μ-loop
 sub-left c = search needs
 
--- src/slots.rt:34:12
+-- src/slots.rt:33:12
 placed-requires : tie.Need-placed-requires Inv-loop μ-loop
 placed-requires c κs = search needs
 
--- src/slots.rt:32:5
+-- src/slots.rt:31:5
 loop-less : tie.Need-loop-less Inv-loop μ-loop
 loop-less c = omega (arith, c .before .before .loop-test .taken)
 
--- src/slots.rt:32:5
+-- src/slots.rt:31:5
 loop-again : tie.Need-loop-again Inv-loop μ-loop
 loop-again c =
     let at-loop-test = c .before .before in
@@ -44,7 +44,7 @@ loop-again c =
       ),
     )
 
--- src/slots.rt:36:13
+-- src/slots.rt:35:13
 returns : tie.Need-returns Inv-loop μ-loop
 returns c =
     let at-loop-test = c .before .before in
@@ -56,7 +56,7 @@ returns c =
       c .if1 .left,
     )
 
--- src/slots.rt:28:1
+-- src/slots.rt:27:1
 returns-2 : tie.Need-returns-2 Inv-loop μ-loop
 returns-2 c = rw (← c .before .loop .inv .1, inverse♯-zero _ (nothing _ (c .loop-test .left)))
 

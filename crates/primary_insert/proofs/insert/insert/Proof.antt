@@ -4,23 +4,23 @@ use borrow.Author.Tests.{eq-eqb, ne-eqb}
 use Rattle.primary_insert.specs.Insert.{insertRoot, mainInsert♯}
 use Rattle.primary_insert.proofs.insert.insert.Tie as tie
 
--- src/insert.rt:123:9
+-- src/insert.rt:136:9
 load-requires : tie.Need-load-requires
 load-requires c κs = search needs
 
--- src/insert.rt:125:44
+-- src/insert.rt:138:44
 leaf-requires : tie.Need-leaf-requires
 leaf-requires c κs = search needs
 
--- src/insert.rt:125:9
+-- src/insert.rt:138:9
 store-requires : tie.Need-store-requires
 store-requires c κs = search needs
 
--- src/insert.rt:126:9
+-- src/insert.rt:139:9
 same-length : tie.Need-same-length
 same-length c = search needs
 
--- src/insert.rt:126:9
+-- src/insert.rt:139:9
 returns : tie.Need-returns
 unfolding mainInsert♯ insertRoot
 returns c =
@@ -30,19 +30,19 @@ returns c =
     let at-load = at-if1 .before .before in
     rw (← at-load .load .ensures, eq-eqb _ _ (at-if1 .if1 .taken), ← at-leaf .leaf .ensures, ← at-store .store .ensures)
 
--- src/insert.rt:130:9
+-- src/insert.rt:143:9
 top-requires : tie.Need-top-requires
 top-requires c κs = search needs
 
--- src/insert.rt:128:5
+-- src/insert.rt:141:5
 insert-beneath-requires : tie.Need-insert-beneath-requires
 insert-beneath-requires c κs = search needs
 
--- src/insert.rt:119:1
+-- src/insert.rt:132:1
 same-length-2 : tie.Need-same-length-2
 same-length-2 c = search needs
 
--- src/insert.rt:119:1
+-- src/insert.rt:132:1
 returns-2 : tie.Need-returns-2
 unfolding mainInsert♯ insertRoot
 returns-2 c =

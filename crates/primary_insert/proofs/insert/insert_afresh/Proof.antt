@@ -4,34 +4,34 @@ use Rattle.primary_insert.specs.Insert.{afreshOnce, mainAfresh♯, putRe
 use borrow.Author.Tests.{eq-eqb, ne-eqb}
 use Rattle.primary_insert.proofs.insert.insert_afresh.Tie as tie
 
--- src/insert.rt:47:9
+-- src/insert.rt:65:9
 put-requires : tie.Need-put-requires
 put-requires c κs = search needs
 
--- src/insert.rt:49:9
+-- src/insert.rt:67:9
 same-length : tie.Need-same-length
 same-length c = search needs
 
--- src/insert.rt:49:9
+-- src/insert.rt:67:9
 returns : tie.Need-returns
 unfolding mainAfresh♯ afreshOnce rebuiltAt putRebuilt
 returns c =
     let at-put = c .before .before .before in
     rw (← at-put .put .ensures, eq-eqb _ _ (c .if1 .taken))
 
--- src/insert.rt:51:9
+-- src/insert.rt:69:9
 load-requires : tie.Need-load-requires
 load-requires c κs = search needs
 
--- src/insert.rt:52:9
+-- src/insert.rt:70:9
 rebuild-requires : tie.Need-rebuild-requires
 rebuild-requires c κs = search needs
 
--- src/insert.rt:63:9
+-- src/insert.rt:81:9
 same-length-2 : tie.Need-same-length-2
 same-length-2 c = search needs
 
--- src/insert.rt:63:9
+-- src/insert.rt:81:9
 returns-2 : tie.Need-returns-2
 unfolding mainAfresh♯ afreshOnce rebuiltAt putRebuilt
 returns-2 c =
@@ -47,15 +47,15 @@ returns-2 c =
       eq-eqb _ _ (c .if2 .taken),
     )
 
--- src/insert.rt:65:5
+-- src/insert.rt:83:5
 store-requires : tie.Need-store-requires
 store-requires c κs = search needs
 
--- src/insert.rt:43:1
+-- src/insert.rt:61:1
 same-length-3 : tie.Need-same-length-3
 same-length-3 c = search needs
 
--- src/insert.rt:43:1
+-- src/insert.rt:61:1
 returns-3 : tie.Need-returns-3
 unfolding mainAfresh♯ afreshOnce rebuiltAt putRebuilt
 returns-3 c =

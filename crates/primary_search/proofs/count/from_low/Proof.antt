@@ -24,23 +24,23 @@ Inv-loop t level capacity b base₀ node₀ tally₀ left₀ base node tally lef
 abbrev μ-loop : tie.MeasureT-loop
 μ-loop t level capacity b base₀ node₀ tally₀ left₀ base node tally left = left
 
--- src/count.rt:85:5
+-- src/count.rt:86:5
 loop-holds : tie.Need-loop-holds Inv-loop μ-loop
 loop-holds c = search needs
 
--- src/count.rt:86:9
+-- src/count.rt:87:9
 sub-left : tie.Need-sub-left Inv-loop μ-loop
 sub-left c = search needs
 
--- src/count.rt:87:13
+-- src/count.rt:88:13
 slot-requires : tie.Need-slot-requires Inv-loop μ-loop
 slot-requires c κs = search needs
 
--- src/count.rt:89:13
+-- src/count.rt:90:13
 lost-requires : tie.Need-lost-requires Inv-loop μ-loop
 lost-requires c κs = search needs
 
--- src/count.rt:89:13
+-- src/count.rt:90:13
 returns : tie.Need-returns Inv-loop μ-loop
 unfolding lowNode lowRecord
 returns c =
@@ -55,31 +55,31 @@ returns c =
       ← c .lost .ensures,
     )
 
--- src/count.rt:91:13
+-- src/count.rt:92:13
 load-requires : tie.Need-load-requires Inv-loop μ-loop
 load-requires c κs = search (needs, c .if1 .left)
 
--- src/count.rt:96:9
+-- src/count.rt:97:9
 deeper-requires : tie.Need-deeper-requires Inv-loop μ-loop
 deeper-requires c κs = search needs
 
--- src/count.rt:97:12
+-- src/count.rt:98:12
 before-x-requires : tie.Need-before-x-requires Inv-loop μ-loop
 before-x-requires c κs = search needs
 
--- src/count.rt:98:21
+-- src/count.rt:99:21
 before-requires : tie.Need-before-requires Inv-loop μ-loop
 before-requires c κs = search needs
 
--- src/count.rt:98:13
+-- src/count.rt:99:13
 visit-requires : tie.Need-visit-requires Inv-loop μ-loop
 visit-requires c κs = search needs
 
--- src/count.rt:85:5
+-- src/count.rt:86:5
 loop-less : tie.Need-loop-less Inv-loop μ-loop
 loop-less c = search needs
 
--- src/count.rt:85:5
+-- src/count.rt:86:5
 loop-again : tie.Need-loop-again Inv-loop μ-loop
 unfolding lowNode lowRecord
 loop-again c =
@@ -106,19 +106,19 @@ loop-again c =
       ),
     )
 
--- src/count.rt:101:13
+-- src/count.rt:102:13
 handed-requires : tie.Need-handed-requires Inv-loop μ-loop
 handed-requires c κs = search needs
 
--- src/count.rt:102:16
+-- src/count.rt:103:16
 before-x-requires-2 : tie.Need-before-x-requires-2 Inv-loop μ-loop
 before-x-requires-2 c κs = search needs
 
--- src/count.rt:103:17
+-- src/count.rt:104:17
 before-requires-2 : tie.Need-before-requires-2 Inv-loop μ-loop
 before-requires-2 c κs = search needs
 
--- src/count.rt:103:17
+-- src/count.rt:104:17
 returns-2 : tie.Need-returns-2 Inv-loop μ-loop
 unfolding lowNode lowRecord
 returns-2 c =
@@ -147,15 +147,15 @@ returns-2 c =
       ← c .before3 .ensures,
     )
 
--- src/count.rt:105:13
+-- src/count.rt:106:13
 visit-requires-2 : tie.Need-visit-requires-2 Inv-loop μ-loop
 visit-requires-2 c κs = search needs
 
--- src/count.rt:85:5
+-- src/count.rt:86:5
 loop-less-2 : tie.Need-loop-less-2 Inv-loop μ-loop
 loop-less-2 c = search needs
 
--- src/count.rt:85:5
+-- src/count.rt:86:5
 loop-again-2 : tie.Need-loop-again-2 Inv-loop μ-loop
 unfolding lowNode lowRecord
 loop-again-2 c =
@@ -186,11 +186,11 @@ loop-again-2 c =
       ),
     )
 
--- src/count.rt:109:5
+-- src/count.rt:110:5
 lost-requires-2 : tie.Need-lost-requires-2 Inv-loop μ-loop
 lost-requires-2 c κs = search needs
 
--- src/count.rt:77:1
+-- src/count.rt:78:1
 returns-3 : tie.Need-returns-3 Inv-loop μ-loop
 unfolding lowNode lowRecord
 returns-3 c = rw (

@@ -24,23 +24,23 @@ Inv-loop t level capacity b base₀ node₀ tally₀ left₀ base node tally lef
 abbrev μ-loop : tie.MeasureT-loop
 μ-loop t level capacity b base₀ node₀ tally₀ left₀ base node tally left = left
 
--- src/count.rt:178:5
+-- src/count.rt:187:5
 loop-holds : tie.Need-loop-holds Inv-loop μ-loop
 loop-holds c = search needs
 
--- src/count.rt:179:9
+-- src/count.rt:188:9
 sub-left : tie.Need-sub-left Inv-loop μ-loop
 sub-left c = search needs
 
--- src/count.rt:180:13
+-- src/count.rt:189:13
 slot-requires : tie.Need-slot-requires Inv-loop μ-loop
 slot-requires c κs = search needs
 
--- src/count.rt:182:13
+-- src/count.rt:191:13
 lost-requires : tie.Need-lost-requires Inv-loop μ-loop
 lost-requires c κs = search needs
 
--- src/count.rt:182:13
+-- src/count.rt:191:13
 returns : tie.Need-returns Inv-loop μ-loop
 unfolding openNode openRecord
 returns c =
@@ -55,31 +55,31 @@ returns c =
       ← c .lost .ensures,
     )
 
--- src/count.rt:184:13
+-- src/count.rt:193:13
 load-requires : tie.Need-load-requires Inv-loop μ-loop
 load-requires c κs = search (needs, c .if1 .left)
 
--- src/count.rt:189:9
+-- src/count.rt:198:9
 deeper-requires : tie.Need-deeper-requires Inv-loop μ-loop
 deeper-requires c κs = search needs
 
--- src/count.rt:190:12
+-- src/count.rt:199:12
 before-x-requires : tie.Need-before-x-requires Inv-loop μ-loop
 before-x-requires c κs = search needs
 
--- src/count.rt:191:21
+-- src/count.rt:200:21
 before-requires : tie.Need-before-requires Inv-loop μ-loop
 before-requires c κs = search needs
 
--- src/count.rt:191:13
+-- src/count.rt:200:13
 visit-requires : tie.Need-visit-requires Inv-loop μ-loop
 visit-requires c κs = search needs
 
--- src/count.rt:178:5
+-- src/count.rt:187:5
 loop-less : tie.Need-loop-less Inv-loop μ-loop
 loop-less c = search needs
 
--- src/count.rt:178:5
+-- src/count.rt:187:5
 loop-again : tie.Need-loop-again Inv-loop μ-loop
 unfolding openNode openRecord
 loop-again c =
@@ -106,23 +106,23 @@ loop-again c =
       ),
     )
 
--- src/count.rt:194:16
+-- src/count.rt:203:16
 past-x-requires : tie.Need-past-x-requires Inv-loop μ-loop
 past-x-requires c κs = search needs
 
--- src/count.rt:195:25
+-- src/count.rt:204:25
 past-requires : tie.Need-past-requires Inv-loop μ-loop
 past-requires c κs = search needs
 
--- src/count.rt:195:17
+-- src/count.rt:204:17
 visit-requires-2 : tie.Need-visit-requires-2 Inv-loop μ-loop
 visit-requires-2 c κs = search needs
 
--- src/count.rt:178:5
+-- src/count.rt:187:5
 loop-less-2 : tie.Need-loop-less-2 Inv-loop μ-loop
 loop-less-2 c = search needs
 
--- src/count.rt:178:5
+-- src/count.rt:187:5
 loop-again-2 : tie.Need-loop-again-2 Inv-loop μ-loop
 unfolding openNode openRecord
 loop-again-2 c =
@@ -153,15 +153,15 @@ loop-again-2 c =
       ),
     )
 
--- src/count.rt:198:21
+-- src/count.rt:207:21
 low-end-requires : tie.Need-low-end-requires Inv-loop μ-loop
 low-end-requires c κs = search needs
 
--- src/count.rt:199:17
+-- src/count.rt:208:17
 high-end-requires : tie.Need-high-end-requires Inv-loop μ-loop
 high-end-requires c κs = search needs
 
--- src/count.rt:199:17
+-- src/count.rt:208:17
 returns-2 : tie.Need-returns-2 Inv-loop μ-loop
 unfolding openNode openRecord
 returns-2 c =
@@ -190,11 +190,11 @@ returns-2 c =
       ← c .high-end .ensures,
     )
 
--- src/count.rt:203:5
+-- src/count.rt:212:5
 lost-requires-2 : tie.Need-lost-requires-2 Inv-loop μ-loop
 lost-requires-2 c κs = search needs
 
--- src/count.rt:170:1
+-- src/count.rt:179:1
 returns-3 : tie.Need-returns-3 Inv-loop μ-loop
 unfolding openNode openRecord
 returns-3 c = rw (

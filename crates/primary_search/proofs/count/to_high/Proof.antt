@@ -24,23 +24,23 @@ Inv-loop t level capacity b base₀ node₀ tally₀ left₀ base node tally lef
 abbrev μ-loop : tie.MeasureT-loop
 μ-loop t level capacity b base₀ node₀ tally₀ left₀ base node tally left = left
 
--- src/count.rt:121:5
+-- src/count.rt:123:5
 loop-holds : tie.Need-loop-holds Inv-loop μ-loop
 loop-holds c = search needs
 
--- src/count.rt:122:9
+-- src/count.rt:124:9
 sub-left : tie.Need-sub-left Inv-loop μ-loop
 sub-left c = search needs
 
--- src/count.rt:123:13
+-- src/count.rt:125:13
 slot-requires : tie.Need-slot-requires Inv-loop μ-loop
 slot-requires c κs = search needs
 
--- src/count.rt:125:13
+-- src/count.rt:127:13
 lost-requires : tie.Need-lost-requires Inv-loop μ-loop
 lost-requires c κs = search needs
 
--- src/count.rt:125:13
+-- src/count.rt:127:13
 returns : tie.Need-returns Inv-loop μ-loop
 unfolding highNode highRecord
 returns c =
@@ -55,31 +55,31 @@ returns c =
       ← c .lost .ensures,
     )
 
--- src/count.rt:127:13
+-- src/count.rt:129:13
 load-requires : tie.Need-load-requires Inv-loop μ-loop
 load-requires c κs = search (needs, c .if1 .left)
 
--- src/count.rt:132:9
+-- src/count.rt:134:9
 deeper-requires : tie.Need-deeper-requires Inv-loop μ-loop
 deeper-requires c κs = search needs
 
--- src/count.rt:133:12
+-- src/count.rt:135:12
 past-x-requires : tie.Need-past-x-requires Inv-loop μ-loop
 past-x-requires c κs = search needs
 
--- src/count.rt:134:21
+-- src/count.rt:136:21
 past-requires : tie.Need-past-requires Inv-loop μ-loop
 past-requires c κs = search needs
 
--- src/count.rt:134:13
+-- src/count.rt:136:13
 visit-requires : tie.Need-visit-requires Inv-loop μ-loop
 visit-requires c κs = search needs
 
--- src/count.rt:121:5
+-- src/count.rt:123:5
 loop-less : tie.Need-loop-less Inv-loop μ-loop
 loop-less c = search needs
 
--- src/count.rt:121:5
+-- src/count.rt:123:5
 loop-again : tie.Need-loop-again Inv-loop μ-loop
 unfolding highNode highRecord
 loop-again c =
@@ -106,19 +106,19 @@ loop-again c =
       ),
     )
 
--- src/count.rt:137:13
+-- src/count.rt:139:13
 handed-requires : tie.Need-handed-requires Inv-loop μ-loop
 handed-requires c κs = search needs
 
--- src/count.rt:138:16
+-- src/count.rt:140:16
 past-x-requires-2 : tie.Need-past-x-requires-2 Inv-loop μ-loop
 past-x-requires-2 c κs = search needs
 
--- src/count.rt:139:17
+-- src/count.rt:141:17
 past-requires-2 : tie.Need-past-requires-2 Inv-loop μ-loop
 past-requires-2 c κs = search needs
 
--- src/count.rt:139:17
+-- src/count.rt:141:17
 returns-2 : tie.Need-returns-2 Inv-loop μ-loop
 unfolding highNode highRecord
 returns-2 c =
@@ -147,15 +147,15 @@ returns-2 c =
       ← c .past2 .ensures,
     )
 
--- src/count.rt:141:13
+-- src/count.rt:143:13
 visit-requires-2 : tie.Need-visit-requires-2 Inv-loop μ-loop
 visit-requires-2 c κs = search needs
 
--- src/count.rt:121:5
+-- src/count.rt:123:5
 loop-less-2 : tie.Need-loop-less-2 Inv-loop μ-loop
 loop-less-2 c = search needs
 
--- src/count.rt:121:5
+-- src/count.rt:123:5
 loop-again-2 : tie.Need-loop-again-2 Inv-loop μ-loop
 unfolding highNode highRecord
 loop-again-2 c =
@@ -186,11 +186,11 @@ loop-again-2 c =
       ),
     )
 
--- src/count.rt:145:5
+-- src/count.rt:147:5
 lost-requires-2 : tie.Need-lost-requires-2 Inv-loop μ-loop
 lost-requires-2 c κs = search needs
 
--- src/count.rt:113:1
+-- src/count.rt:115:1
 returns-3 : tie.Need-returns-3 Inv-loop μ-loop
 unfolding highNode highRecord
 returns-3 c = rw (

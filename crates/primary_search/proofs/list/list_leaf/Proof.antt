@@ -3,31 +3,31 @@ use Rattle.primary_search.proofs.list.list_leaf.Statement.{statement}
 use Rattle.primary_search.specs.List.{listMark, listLeaf♯}
 use Rattle.primary_search.proofs.list.list_leaf.Tie as tie
 
--- src/list.rt:24:9
+-- src/list.rt:37:9
 load-requires : tie.Need-load-requires
 load-requires c κs = search needs
 
--- src/list.rt:25:8
+-- src/list.rt:38:8
 holds-requires : tie.Need-holds-requires
 holds-requires c κs = search needs
 
--- src/list.rt:26:32
+-- src/list.rt:39:32
 found-requires : tie.Need-found-requires
 found-requires c κs = search needs
 
--- src/list.rt:26:9
+-- src/list.rt:39:9
 put-listed-requires : tie.Need-put-listed-requires
 put-listed-requires c κs = search needs
 
--- src/list.rt:27:9
+-- src/list.rt:40:9
 take-requires : tie.Need-take-requires
 take-requires c κs = search needs
 
--- src/list.rt:27:9
+-- src/list.rt:40:9
 same-length : tie.Need-same-length
 same-length c = search needs
 
--- src/list.rt:27:9
+-- src/list.rt:40:9
 returns : tie.Need-returns
 unfolding listLeaf♯ listMark
 returns c =
@@ -45,11 +45,11 @@ returns c =
       ← c .take .ensures,
     )
 
--- src/list.rt:29:5
+-- src/list.rt:42:5
 visit-requires : tie.Need-visit-requires
 visit-requires c κs = search needs
 
--- src/list.rt:20:1
+-- src/list.rt:33:1
 returns-2 : tie.Need-returns-2
 unfolding listLeaf♯ listMark
 returns-2 c =

@@ -3,15 +3,15 @@ use Rattle.primary_search.proofs.list.list_over.Statement.{statement}
 use Rattle.primary_search.specs.List.{listOver♯}
 use Rattle.primary_search.proofs.list.list_over.Tie as tie
 
--- src/list.rt:47:8
+-- src/list.rt:59:8
 lacks-level-requires : tie.Need-lacks-level-requires
 lacks-level-requires c κs = search needs
 
--- src/list.rt:48:9
+-- src/list.rt:60:9
 lost-requires : tie.Need-lost-requires
 lost-requires c κs = search needs
 
--- src/list.rt:48:9
+-- src/list.rt:60:9
 returns : tie.Need-returns
 unfolding listOver♯
 returns c = rw (
@@ -20,11 +20,11 @@ returns c = rw (
   ← c .lost .ensures,
 )
 
--- src/list.rt:50:9
+-- src/list.rt:62:9
 load-auxiliary-requires : tie.Need-load-auxiliary-requires
 load-auxiliary-requires c κs = search needs
 
--- src/list.rt:51:5
+-- src/list.rt:63:5
 list-requires : tie.Need-list-requires
 list-requires c κs =
     let at-if1 = c .before .before in
@@ -32,11 +32,11 @@ list-requires c κs =
     let at-start = at-lacks-level .before .before .before in
     (at-start .pre .0, at-lacks-level .lacks-level .ensures .1 (at-if1 .if1 .left))
 
--- src/list.rt:34:1
+-- src/list.rt:46:1
 same-length : tie.Need-same-length
 same-length c = search needs
 
--- src/list.rt:34:1
+-- src/list.rt:46:1
 returns-2 : tie.Need-returns-2
 unfolding listOver♯
 returns-2 c =

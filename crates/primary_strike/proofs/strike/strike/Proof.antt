@@ -4,27 +4,27 @@ use borrow.Author.Tests.{eq-eqb, ne-eqb}
 use Rattle.primary_strike.specs.Strike.{mainStrike♯, putStruck, strikeRoot}
 use Rattle.primary_strike.proofs.strike.strike.Tie as tie
 
--- src/strike.rt:186:9
+-- src/strike.rt:214:9
 load-requires : tie.Need-load-requires
 load-requires c κs = search needs
 
--- src/strike.rt:188:8
+-- src/strike.rt:216:8
 is-leaf-requires : tie.Need-is-leaf-requires
 is-leaf-requires c κs = search needs
 
--- src/strike.rt:189:44
+-- src/strike.rt:217:44
 none-requires : tie.Need-none-requires
 none-requires c κs = search needs
 
--- src/strike.rt:189:9
+-- src/strike.rt:217:9
 store-requires : tie.Need-store-requires
 store-requires c κs = search needs
 
--- src/strike.rt:190:9
+-- src/strike.rt:218:9
 same-length : tie.Need-same-length
 same-length c = search needs
 
--- src/strike.rt:190:9
+-- src/strike.rt:218:9
 returns : tie.Need-returns
 unfolding mainStrike♯ strikeRoot putStruck
 returns c =
@@ -41,19 +41,19 @@ returns c =
       ← at-store .store .ensures,
     )
 
--- src/strike.rt:192:9
+-- src/strike.rt:220:9
 top-requires : tie.Need-top-requires
 top-requires c κs = search needs
 
--- src/strike.rt:193:9
+-- src/strike.rt:221:9
 strike-beneath-requires : tie.Need-strike-beneath-requires
 strike-beneath-requires c κs = search needs
 
--- src/strike.rt:196:9
+-- src/strike.rt:224:9
 same-length-2 : tie.Need-same-length-2
 same-length-2 c = search needs
 
--- src/strike.rt:196:9
+-- src/strike.rt:224:9
 returns-2 : tie.Need-returns-2
 unfolding mainStrike♯ strikeRoot putStruck
 returns-2 c =
@@ -71,15 +71,15 @@ returns-2 c =
       eq-eqb _ _ (c .if2 .taken),
     )
 
--- src/strike.rt:198:5
+-- src/strike.rt:226:5
 store-requires-2 : tie.Need-store-requires-2
 store-requires-2 c κs = search needs
 
--- src/strike.rt:182:1
+-- src/strike.rt:210:1
 same-length-3 : tie.Need-same-length-3
 same-length-3 c = search needs
 
--- src/strike.rt:182:1
+-- src/strike.rt:210:1
 returns-3 : tie.Need-returns-3
 unfolding mainStrike♯ strikeRoot putStruck
 returns-3 c =

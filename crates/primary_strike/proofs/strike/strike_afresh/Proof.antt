@@ -3,23 +3,23 @@ use Rattle.primary_strike.proofs.strike.strike_afresh.Statement.{statem
 use Rattle.primary_strike.specs.Strike.{struckAfresh♯, struckFresh}
 use Rattle.primary_strike.proofs.strike.strike_afresh.Tie as tie
 
--- src/strike.rt:77:9
+-- src/strike.rt:79:9
 fewer-requires : tie.Need-fewer-requires
 fewer-requires c κs = search needs
 
--- src/strike.rt:78:9
+-- src/strike.rt:80:9
 rebuild-requires : tie.Need-rebuild-requires
 rebuild-requires c κs = search needs
 
--- src/strike.rt:79:5
+-- src/strike.rt:81:5
 answer-requires : tie.Need-answer-requires
 answer-requires c κs = search needs
 
--- src/strike.rt:66:1
+-- src/strike.rt:68:1
 same-length : tie.Need-same-length
 same-length c = search needs
 
--- src/strike.rt:66:1
+-- src/strike.rt:68:1
 returns : tie.Need-returns
 unfolding struckAfresh♯ struckFresh
 returns c =

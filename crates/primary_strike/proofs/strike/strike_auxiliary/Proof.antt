@@ -3,15 +3,15 @@ use Rattle.primary_strike.proofs.strike.strike_auxiliary.Statement.{sta
 use Rattle.primary_strike.specs.Strike.{armOnly, struckAuxiliary♯}
 use Rattle.primary_strike.proofs.strike.strike_auxiliary.Tie as tie
 
--- src/strike.rt:94:9
+-- src/strike.rt:96:9
 strike-requires : tie.Need-strike-requires
 strike-requires c κs = search needs
 
--- src/strike.rt:83:1
+-- src/strike.rt:85:1
 same-length : tie.Need-same-length
 same-length c = search needs
 
--- src/strike.rt:83:1
+-- src/strike.rt:85:1
 returns : tie.Need-returns
 unfolding struckAuxiliary♯ armOnly
 returns c =

@@ -5,19 +5,19 @@ use Rattle.primary_strike.specs.Strike.{mainNodeOver}
 use Rattle.secondary_update.specs.Strike.{strikeOver}
 use Rattle.primary_strike.proofs.strike.strike_over.Tie as tie
 
--- src/strike.rt:138:25
+-- src/strike.rt:139:25
 fewer-requires : tie.Need-fewer-requires
 fewer-requires c κs = search needs
 
--- src/strike.rt:140:13
+-- src/strike.rt:141:13
 node-over-requires : tie.Need-node-over-requires
 node-over-requires c κs = search needs
 
--- src/strike.rt:140:13
+-- src/strike.rt:141:13
 same-length : tie.Need-same-length
 same-length c = search needs
 
--- src/strike.rt:140:13
+-- src/strike.rt:141:13
 returns : tie.Need-returns
 unfolding mainNodeOver strikeOver
 returns c =
@@ -32,19 +32,19 @@ returns c =
       ← at-node-over .node-over .ensures,
     )
 
--- src/strike.rt:142:13
+-- src/strike.rt:143:13
 renamed-requires : tie.Need-renamed-requires
 renamed-requires c κs = search needs
 
--- src/strike.rt:143:9
+-- src/strike.rt:144:9
 node-over-requires-2 : tie.Need-node-over-requires-2
 node-over-requires-2 c κs = search needs
 
--- src/strike.rt:143:9
+-- src/strike.rt:144:9
 same-length-2 : tie.Need-same-length-2
 same-length-2 c = search needs
 
--- src/strike.rt:143:9
+-- src/strike.rt:144:9
 returns-2 : tie.Need-returns-2
 unfolding mainNodeOver strikeOver
 returns-2 c =
@@ -61,11 +61,11 @@ returns-2 c =
       ← at-node-over2 .node-over2 .ensures,
     )
 
--- src/strike.rt:145:5
+-- src/strike.rt:146:5
 damaged-requires : tie.Need-damaged-requires
 damaged-requires c κs = search needs
 
--- src/strike.rt:122:1
+-- src/strike.rt:123:1
 returns-3 : tie.Need-returns-3
 unfolding mainNodeOver strikeOver
 returns-3 c =

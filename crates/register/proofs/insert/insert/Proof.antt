@@ -3,15 +3,15 @@ use borrow.Author.Needs.{needs}
 use Rattle.register.proofs.insert.insert.Statement.{statement}
 use Rattle.register.proofs.insert.insert.Tie as tie
 
--- src/insert.rt:52:5
+-- src/insert.rt:57:5
 inserted-requires : tie.Need-inserted-requires
 inserted-requires c κs = search needs
 
--- src/insert.rt:49:1
+-- src/insert.rt:54:1
 same-length : tie.Need-same-length
 same-length c = search needs
 
--- src/insert.rt:49:1
+-- src/insert.rt:54:1
 returns : tie.Need-returns
 returns c = insert-performs _ _ _ _ (c .before .before .inserted .kept .0) (c .before .before .inserted .ensures)
 

@@ -5,19 +5,19 @@ use borrow.Author.Needs.{needs}
 use Rattle.register.proofs.insert.insert_own.Statement.{statement}
 use Rattle.register.proofs.insert.insert_own.Tie as tie
 
--- src/insert.rt:22:9
+-- src/insert.rt:23:9
 find-requires : tie.Need-find-requires
 find-requires c κs = search needs
 
--- src/insert.rt:24:9
+-- src/insert.rt:25:9
 close-requires : tie.Need-close-requires
 close-requires c κs = search needs
 
--- src/insert.rt:24:9
+-- src/insert.rt:25:9
 same-length : tie.Need-same-length
 same-length c = search needs
 
--- src/insert.rt:24:9
+-- src/insert.rt:25:9
 returns : tie.Need-returns
 unfolding insertOwn♯ insertFound
 returns c =
@@ -26,15 +26,15 @@ returns c =
     let at-find = at-if1 .before in
     rw (← find-read _ _ (at-find .before .before .before .pre .0) _ _ (at-find .find .ensures), eq-eqb _ _ (at-if1 .if1 .taken), ← at-close .close .ensures)
 
--- src/insert.rt:27:13
+-- src/insert.rt:28:13
 live-requires : tie.Need-live-requires
 live-requires c κs = search needs
 
--- src/insert.rt:30:13
+-- src/insert.rt:31:13
 same-length-2 : tie.Need-same-length-2
 same-length-2 c = search needs
 
--- src/insert.rt:30:13
+-- src/insert.rt:31:13
 returns-2 : tie.Need-returns-2
 unfolding insertOwn♯ insertFound
 returns-2 c =
@@ -51,19 +51,19 @@ returns-2 c =
       eq-eqb _ _ (c .if3 .taken),
     )
 
--- src/insert.rt:32:13
+-- src/insert.rt:33:13
 insert-requires : tie.Need-insert-requires
 insert-requires c κs = search needs
 
--- src/insert.rt:33:9
+-- src/insert.rt:34:9
 settle-requires : tie.Need-settle-requires
 settle-requires c κs = search needs
 
--- src/insert.rt:33:9
+-- src/insert.rt:34:9
 same-length-3 : tie.Need-same-length-3
 same-length-3 c = search needs
 
--- src/insert.rt:33:9
+-- src/insert.rt:34:9
 returns-3 : tie.Need-returns-3
 unfolding insertOwn♯ insertFound settledAfter
 returns-3 c =
@@ -85,11 +85,11 @@ returns-3 c =
       ← at-settle .settle .ensures,
     )
 
--- src/insert.rt:19:1
+-- src/insert.rt:20:1
 same-length-4 : tie.Need-same-length-4
 same-length-4 c = search needs
 
--- src/insert.rt:19:1
+-- src/insert.rt:20:1
 returns-4 : tie.Need-returns-4
 unfolding insertOwn♯ insertFound
 returns-4 c =

@@ -3,15 +3,15 @@ use borrow.Author.Needs.{needs}
 use Rattle.register.proofs.strike.strike.Statement.{statement}
 use Rattle.register.proofs.strike.strike.Tie as tie
 
--- src/strike.rt:49:5
+-- src/strike.rt:52:5
 struck-requires : tie.Need-struck-requires
 struck-requires c κs = search needs
 
--- src/strike.rt:46:1
+-- src/strike.rt:49:1
 same-length : tie.Need-same-length
 same-length c = search needs
 
--- src/strike.rt:46:1
+-- src/strike.rt:49:1
 returns : tie.Need-returns
 returns c = strike-performs _ _ _ _ (c .before .before .struck .kept .0) (c .before .before .struck .ensures)
 

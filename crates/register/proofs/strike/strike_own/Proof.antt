@@ -5,19 +5,15 @@ use borrow.Author.Tests.{eq-eqb, ne-eqb}
 use Rattle.register.specs.Mirrors.{settledAfter, strikeFound, strikeOwn♯}
 use Rattle.register.proofs.strike.strike_own.Tie as tie
 
--- src/strike.rt:27:9
 find-requires : tie.Need-find-requires
 find-requires c κs = search needs
 
--- src/strike.rt:29:9
 close-requires : tie.Need-close-requires
 close-requires c κs = search needs
 
--- src/strike.rt:29:9
 same-length : tie.Need-same-length
 same-length c = search needs
 
--- src/strike.rt:29:9
 returns : tie.Need-returns
 unfolding strikeOwn♯ strikeFound settledAfter
 returns c =
@@ -26,11 +22,9 @@ returns c =
     let at-find = at-if1 .before in
     rw (← find-read _ _ (at-find .before .before .before .pre .0) _ _ (at-find .find .ensures), eq-eqb _ _ (at-if1 .if1 .taken), ← at-close .close .ensures)
 
--- src/strike.rt:32:9
 same-length-2 : tie.Need-same-length-2
 same-length-2 c = search needs
 
--- src/strike.rt:32:9
 returns-2 : tie.Need-returns-2
 unfolding strikeOwn♯ strikeFound settledAfter
 returns-2 c =
@@ -40,7 +34,6 @@ returns-2 c =
       eq-eqb _ _ (c .if2 .taken),
     )
 
--- src/strike.rt:35:9
 strike-requires : tie.Need-strike-requires
 strike-requires c κs =
     let at-if2 = c .before in
@@ -49,15 +42,12 @@ strike-requires c κs =
     let at-start = at-find .before .before .before in
     (at-start .pre, slot-read _ _ (at-start .pre .0) _ _ (at-find .find .ensures) (at-if1 .if1 .left) (at-if2 .if2 .left))
 
--- src/strike.rt:36:5
 settle-requires : tie.Need-settle-requires
 settle-requires c κs = search needs
 
--- src/strike.rt:23:1
 same-length-3 : tie.Need-same-length-3
 same-length-3 c = search needs
 
--- src/strike.rt:23:1
 returns-3 : tie.Need-returns-3
 unfolding strikeOwn♯ strikeFound settledAfter
 returns-3 c =

@@ -37,51 +37,51 @@ said t = (
   make-node-reads.Learnt,
 )
 
--- src/build.rt:69:9
+-- src/build.rt:67:9
 build-build-few-requires : (t : ℕ) → build-lts.Need-build-few-requires (said t) (build-at t) build.Post
 build-build-few-requires t c κs = search needs
 
--- src/build.rt:69:9
+-- src/build.rt:67:9
 build-same-length : (t : ℕ) → build-lts.Need-same-length (said t) (build-at t) build.Post
 build-same-length t c = search needs
 
--- src/build.rt:69:9
+-- src/build.rt:67:9
 build-returns : (t : ℕ) → build-lts.Need-returns (said t) (build-at t) build.Post
 build-returns t c = rw (← c .before .before .build-few .ensures)
 
--- src/build.rt:72:9
+-- src/build.rt:70:9
 build-build-requires : (t : ℕ) → build-lts.Need-build-requires (said t) (build-at t) build.Post
 build-build-requires t c κs = search needs
 
--- src/build.rt:73:38
+-- src/build.rt:71:38
 build-add-build : (t : ℕ) → build-lts.Need-add-build (said t) (build-at t) build.Post
 build-add-build t c = search needs
 
--- src/build.rt:73:48
+-- src/build.rt:71:48
 build-sub-build : (t : ℕ) → build-lts.Need-sub-build (said t) (build-at t) build.Post
 build-sub-build t c = search needs
 
--- src/build.rt:73:9
+-- src/build.rt:71:9
 build-build-requires-2 : (t : ℕ) → build-lts.Need-build-requires-2 (said t) (build-at t) build.Post
 build-build-requires-2 t c κs = search needs
 
--- src/build.rt:74:41
+-- src/build.rt:72:41
 build-add-run-slot : (t : ℕ) → build-lts.Need-add-run-slot (said t) (build-at t) build.Post
 build-add-run-slot t c = search needs
 
--- src/build.rt:74:9
+-- src/build.rt:72:9
 build-run-slot-requires : (t : ℕ) → build-lts.Need-run-slot-requires (said t) (build-at t) build.Post
 build-run-slot-requires t c κs = search needs
 
--- src/build.rt:75:5
+-- src/build.rt:73:5
 build-make-node-requires : (t : ℕ) → build-lts.Need-make-node-requires (said t) (build-at t) build.Post
 build-make-node-requires t c κs = search needs
 
--- src/build.rt:64:1
+-- src/build.rt:62:1
 build-same-length-2 : (t : ℕ) → build-lts.Need-same-length-2 (said t) (build-at t) build.Post
 build-same-length-2 t c = search needs
 
--- src/build.rt:64:1
+-- src/build.rt:62:1
 build-returns-2 : (t : ℕ) → build-lts.Need-returns-2 (said t) (build-at t) build.Post
 unfolding buildNode
 build-returns-2 t c =

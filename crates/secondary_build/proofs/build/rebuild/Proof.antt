@@ -5,22 +5,18 @@ use Rattle.secondary_build.proofs.build.rebuild.Statement.{statement}
 use Rattle.secondary_build.specs.Build.{rebuildRun, rebuild♯}
 use Rattle.secondary_build.proofs.build.rebuild.Tie as tie
 
--- src/build.rt:87:8
 gather-requires : tie.Need-gather-requires
 gather-requires c κs = search needs
 
--- src/build.rt:88:9
 build-requires : tie.Need-build-requires
 build-requires c κs =
     let at-gather = c .before .before .before .before in
     let fits = at-gather .gather .ensures .1 (c .before .if1 .taken) in
     (fits .0, omega (arith, fits .1), search needs, search needs)
 
--- src/build.rt:88:9
 same-length : tie.Need-same-length
 same-length c = search needs
 
--- src/build.rt:88:9
 returns : tie.Need-returns
 unfolding rebuild♯ rebuildRun
 returns c =
@@ -29,15 +25,12 @@ returns c =
     let at-gather = at-if1 .before .before .before in
     rw (← at-gather .gather .ensures .0, at-if1 .if1 .taken, ← at-build .build .ensures)
 
--- src/build.rt:90:5
 none-requires : tie.Need-none-requires
 none-requires c κs = search needs
 
--- src/build.rt:76:1
 same-length-2 : tie.Need-same-length-2
 same-length-2 c = search needs
 
--- src/build.rt:76:1
 returns-2 : tie.Need-returns-2
 unfolding rebuild♯ rebuildRun
 returns-2 c =

@@ -4,19 +4,19 @@ use borrow.Author.Needs.{needs}
 use mathlib.Core.Logic.{⊎-elim}
 use Rattle.secondary_search.proofs.count.count.Tie as tie
 
--- src/count.rt:151:8
+-- src/count.rt:154:8
 before-y-requires : tie.Need-before-y-requires
 before-y-requires c κs = search needs
 
--- src/count.rt:152:12
+-- src/count.rt:155:12
 before-y-requires-2 : tie.Need-before-y-requires-2
 before-y-requires-2 c κs = search needs
 
--- src/count.rt:153:13
+-- src/count.rt:156:13
 before-requires : tie.Need-before-requires
 before-requires c κs = search needs
 
--- src/count.rt:153:13
+-- src/count.rt:156:13
 returns : tie.Need-returns
 unfolding countTree
 returns c =
@@ -31,19 +31,19 @@ returns c =
       ← c .before2 .ensures,
     )
 
--- src/count.rt:156:12
+-- src/count.rt:159:12
 past-y-requires : tie.Need-past-y-requires
 past-y-requires c κs = search needs
 
--- src/count.rt:157:16
+-- src/count.rt:160:16
 past-y-requires-2 : tie.Need-past-y-requires-2
 past-y-requires-2 c κs = search needs
 
--- src/count.rt:158:17
+-- src/count.rt:161:17
 past-requires : tie.Need-past-requires
 past-requires c κs = search needs
 
--- src/count.rt:158:17
+-- src/count.rt:161:17
 returns-2 : tie.Need-returns-2
 unfolding countTree
 returns-2 c =
@@ -62,11 +62,11 @@ returns-2 c =
       ← c .past .ensures,
     )
 
--- src/count.rt:161:13
+-- src/count.rt:164:13
 take-requires : tie.Need-take-requires
 take-requires c κs = search needs
 
--- src/count.rt:161:13
+-- src/count.rt:164:13
 returns-3 : tie.Need-returns-3
 unfolding countTree
 returns-3 c =
@@ -81,15 +81,15 @@ returns-3 c =
       ← c .take .ensures,
     )
 
--- src/count.rt:164:29
+-- src/count.rt:167:29
 visit-requires : tie.Need-visit-requires
 visit-requires c κs = search needs
 
--- src/count.rt:164:5
+-- src/count.rt:167:5
 opened-requires : tie.Need-opened-requires
 opened-requires c κs = search needs
 
--- src/count.rt:147:1
+-- src/count.rt:150:1
 returns-4 : tie.Need-returns-4
 unfolding countTree
 returns-4 c =

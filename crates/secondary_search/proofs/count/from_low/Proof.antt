@@ -22,23 +22,23 @@ Inv-loop t b node₀ tally₀ left₀ node tally left =
 abbrev μ-loop : tie.MeasureT-loop
 μ-loop t b node₀ tally₀ left₀ node tally left = left
 
--- src/count.rt:23:5
+-- src/count.rt:24:5
 loop-holds : tie.Need-loop-holds Inv-loop μ-loop
 loop-holds c = search needs
 
--- src/count.rt:24:9
+-- src/count.rt:25:9
 sub-left : tie.Need-sub-left Inv-loop μ-loop
 sub-left c = search needs
 
--- src/count.rt:25:13
+-- src/count.rt:26:13
 place-requires : tie.Need-place-requires Inv-loop μ-loop
 place-requires c κs = search needs
 
--- src/count.rt:27:13
+-- src/count.rt:28:13
 lost-requires : tie.Need-lost-requires Inv-loop μ-loop
 lost-requires c κs = search needs
 
--- src/count.rt:27:13
+-- src/count.rt:28:13
 returns : tie.Need-returns Inv-loop μ-loop
 unfolding lowNode lowRecord
 returns c =
@@ -52,30 +52,30 @@ returns c =
       ← c .lost .ensures,
     )
 
--- src/count.rt:29:13
+-- src/count.rt:30:13
 read-requires : tie.Need-read-requires Inv-loop μ-loop
 read-requires c κs =
     let at-place = c .before in
     let at-start = at-place .before .before .before .before in
     record-there (at-start .args .t .now) _ _ (at-start .pre) (at-place .place .ensures) (c .if1 .left)
 
--- src/count.rt:34:12
+-- src/count.rt:35:12
 before-y-requires : tie.Need-before-y-requires Inv-loop μ-loop
 before-y-requires c κs = search needs
 
--- src/count.rt:35:21
+-- src/count.rt:36:21
 before-requires : tie.Need-before-requires Inv-loop μ-loop
 before-requires c κs = search needs
 
--- src/count.rt:35:13
+-- src/count.rt:36:13
 visit-requires : tie.Need-visit-requires Inv-loop μ-loop
 visit-requires c κs = search needs
 
--- src/count.rt:23:5
+-- src/count.rt:24:5
 loop-less : tie.Need-loop-less Inv-loop μ-loop
 loop-less c = search needs
 
--- src/count.rt:23:5
+-- src/count.rt:24:5
 loop-again : tie.Need-loop-again Inv-loop μ-loop
 unfolding lowNode lowRecord
 loop-again c =
@@ -100,19 +100,19 @@ loop-again c =
       ),
     )
 
--- src/count.rt:38:13
+-- src/count.rt:39:13
 take-requires : tie.Need-take-requires Inv-loop μ-loop
 take-requires c κs = search needs
 
--- src/count.rt:39:16
+-- src/count.rt:40:16
 before-y-requires-2 : tie.Need-before-y-requires-2 Inv-loop μ-loop
 before-y-requires-2 c κs = search needs
 
--- src/count.rt:40:17
+-- src/count.rt:41:17
 before-requires-2 : tie.Need-before-requires-2 Inv-loop μ-loop
 before-requires-2 c κs = search needs
 
--- src/count.rt:40:17
+-- src/count.rt:41:17
 returns-2 : tie.Need-returns-2 Inv-loop μ-loop
 unfolding lowNode lowRecord
 returns-2 c =
@@ -139,15 +139,15 @@ returns-2 c =
       ← c .before3 .ensures,
     )
 
--- src/count.rt:42:13
+-- src/count.rt:43:13
 visit-requires-2 : tie.Need-visit-requires-2 Inv-loop μ-loop
 visit-requires-2 c κs = search needs
 
--- src/count.rt:23:5
+-- src/count.rt:24:5
 loop-less-2 : tie.Need-loop-less-2 Inv-loop μ-loop
 loop-less-2 c = search needs
 
--- src/count.rt:23:5
+-- src/count.rt:24:5
 loop-again-2 : tie.Need-loop-again-2 Inv-loop μ-loop
 unfolding lowNode lowRecord
 loop-again-2 c =
@@ -176,11 +176,11 @@ loop-again-2 c =
       ),
     )
 
--- src/count.rt:46:5
+-- src/count.rt:47:5
 lost-requires-2 : tie.Need-lost-requires-2 Inv-loop μ-loop
 lost-requires-2 c κs = search needs
 
--- src/count.rt:16:1
+-- src/count.rt:17:1
 returns-3 : tie.Need-returns-3 Inv-loop μ-loop
 unfolding lowNode lowRecord
 returns-3 c = rw (

@@ -3,32 +3,32 @@ use Rattle.nodes.specs.Count.{highEnd}
 use borrow.Author.Needs.{needs}
 use Rattle.secondary_search.proofs.count.high_end.Tie as tie
 
--- src/count.rt:105:8
+-- src/count.rt:103:8
 past-y-requires : tie.Need-past-y-requires
 past-y-requires c κs = search needs
 
--- src/count.rt:106:9
+-- src/count.rt:104:9
 past-requires : tie.Need-past-requires
 past-requires c κs = search needs
 
--- src/count.rt:106:9
+-- src/count.rt:104:9
 returns : tie.Need-returns
 unfolding highEnd
 returns c = rw (← c .before .before .past-y .ensures, c .before .if1 .taken, ← c .past .ensures)
 
--- src/count.rt:108:8
+-- src/count.rt:106:8
 past-y-requires-2 : tie.Need-past-y-requires-2
 past-y-requires-2 c κs = search needs
 
--- src/count.rt:109:54
+-- src/count.rt:107:54
 visit-requires : tie.Need-visit-requires
 visit-requires c κs = search needs
 
--- src/count.rt:109:9
+-- src/count.rt:107:9
 to-high-requires : tie.Need-to-high-requires
 to-high-requires c κs = search needs
 
--- src/count.rt:109:9
+-- src/count.rt:107:9
 returns-2 : tie.Need-returns-2
 unfolding highEnd
 returns-2 c =
@@ -45,11 +45,11 @@ returns-2 c =
       ← c .to-high .ensures,
     )
 
--- src/count.rt:111:5
+-- src/count.rt:109:5
 take-requires : tie.Need-take-requires
 take-requires c κs = search needs
 
--- src/count.rt:101:1
+-- src/count.rt:99:1
 returns-3 : tie.Need-returns-3
 unfolding highEnd
 returns-3 c =

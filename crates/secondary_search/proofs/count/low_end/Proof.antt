@@ -3,32 +3,32 @@ use Rattle.nodes.specs.Count.{lowEnd}
 use borrow.Author.Needs.{needs}
 use Rattle.secondary_search.proofs.count.low_end.Tie as tie
 
--- src/count.rt:92:8
+-- src/count.rt:90:8
 before-y-requires : tie.Need-before-y-requires
 before-y-requires c κs = search needs
 
--- src/count.rt:93:9
+-- src/count.rt:91:9
 before-requires : tie.Need-before-requires
 before-requires c κs = search needs
 
--- src/count.rt:93:9
+-- src/count.rt:91:9
 returns : tie.Need-returns
 unfolding lowEnd
 returns c = rw (← c .before .before .before-y .ensures, c .before .if1 .taken, ← c .before2 .ensures)
 
--- src/count.rt:95:8
+-- src/count.rt:93:8
 before-y-requires-2 : tie.Need-before-y-requires-2
 before-y-requires-2 c κs = search needs
 
--- src/count.rt:96:55
+-- src/count.rt:94:55
 visit-requires : tie.Need-visit-requires
 visit-requires c κs = search needs
 
--- src/count.rt:96:9
+-- src/count.rt:94:9
 from-low-requires : tie.Need-from-low-requires
 from-low-requires c κs = search needs
 
--- src/count.rt:96:9
+-- src/count.rt:94:9
 returns-2 : tie.Need-returns-2
 unfolding lowEnd
 returns-2 c =
@@ -45,11 +45,11 @@ returns-2 c =
       ← c .from-low .ensures,
     )
 
--- src/count.rt:98:5
+-- src/count.rt:96:5
 take-requires : tie.Need-take-requires
 take-requires c κs = search needs
 
--- src/count.rt:88:1
+-- src/count.rt:86:1
 returns-3 : tie.Need-returns-3
 unfolding lowEnd
 returns-3 c =

@@ -22,23 +22,23 @@ Inv-loop t b node₀ tally₀ left₀ node tally left =
 abbrev μ-loop : tie.MeasureT-loop
 μ-loop t b node₀ tally₀ left₀ node tally left = left
 
--- src/count.rt:123:5
+-- src/count.rt:121:5
 loop-holds : tie.Need-loop-holds Inv-loop μ-loop
 loop-holds c = search needs
 
--- src/count.rt:124:9
+-- src/count.rt:122:9
 sub-left : tie.Need-sub-left Inv-loop μ-loop
 sub-left c = search needs
 
--- src/count.rt:125:13
+-- src/count.rt:123:13
 place-requires : tie.Need-place-requires Inv-loop μ-loop
 place-requires c κs = search needs
 
--- src/count.rt:127:13
+-- src/count.rt:125:13
 lost-requires : tie.Need-lost-requires Inv-loop μ-loop
 lost-requires c κs = search needs
 
--- src/count.rt:127:13
+-- src/count.rt:125:13
 returns : tie.Need-returns Inv-loop μ-loop
 unfolding openNode openRecord
 returns c =
@@ -52,30 +52,30 @@ returns c =
       ← c .lost .ensures,
     )
 
--- src/count.rt:129:13
+-- src/count.rt:127:13
 read-requires : tie.Need-read-requires Inv-loop μ-loop
 read-requires c κs =
     let at-place = c .before in
     let at-start = at-place .before .before .before .before in
     record-there (at-start .args .t .now) _ _ (at-start .pre) (at-place .place .ensures) (c .if1 .left)
 
--- src/count.rt:134:12
+-- src/count.rt:132:12
 before-y-requires : tie.Need-before-y-requires Inv-loop μ-loop
 before-y-requires c κs = search needs
 
--- src/count.rt:135:21
+-- src/count.rt:133:21
 before-requires : tie.Need-before-requires Inv-loop μ-loop
 before-requires c κs = search needs
 
--- src/count.rt:135:13
+-- src/count.rt:133:13
 visit-requires : tie.Need-visit-requires Inv-loop μ-loop
 visit-requires c κs = search needs
 
--- src/count.rt:123:5
+-- src/count.rt:121:5
 loop-less : tie.Need-loop-less Inv-loop μ-loop
 loop-less c = search needs
 
--- src/count.rt:123:5
+-- src/count.rt:121:5
 loop-again : tie.Need-loop-again Inv-loop μ-loop
 unfolding openNode openRecord
 loop-again c =
@@ -100,23 +100,23 @@ loop-again c =
       ),
     )
 
--- src/count.rt:138:16
+-- src/count.rt:136:16
 past-y-requires : tie.Need-past-y-requires Inv-loop μ-loop
 past-y-requires c κs = search needs
 
--- src/count.rt:139:25
+-- src/count.rt:137:25
 past-requires : tie.Need-past-requires Inv-loop μ-loop
 past-requires c κs = search needs
 
--- src/count.rt:139:17
+-- src/count.rt:137:17
 visit-requires-2 : tie.Need-visit-requires-2 Inv-loop μ-loop
 visit-requires-2 c κs = search needs
 
--- src/count.rt:123:5
+-- src/count.rt:121:5
 loop-less-2 : tie.Need-loop-less-2 Inv-loop μ-loop
 loop-less-2 c = search needs
 
--- src/count.rt:123:5
+-- src/count.rt:121:5
 loop-again-2 : tie.Need-loop-again-2 Inv-loop μ-loop
 unfolding openNode openRecord
 loop-again-2 c =
@@ -145,15 +145,15 @@ loop-again-2 c =
       ),
     )
 
--- src/count.rt:142:21
+-- src/count.rt:140:21
 low-end-requires : tie.Need-low-end-requires Inv-loop μ-loop
 low-end-requires c κs = search needs
 
--- src/count.rt:143:17
+-- src/count.rt:141:17
 high-end-requires : tie.Need-high-end-requires Inv-loop μ-loop
 high-end-requires c κs = search needs
 
--- src/count.rt:143:17
+-- src/count.rt:141:17
 returns-2 : tie.Need-returns-2 Inv-loop μ-loop
 unfolding openNode openRecord
 returns-2 c =
@@ -180,11 +180,11 @@ returns-2 c =
       ← c .high-end .ensures,
     )
 
--- src/count.rt:147:5
+-- src/count.rt:145:5
 lost-requires-2 : tie.Need-lost-requires-2 Inv-loop μ-loop
 lost-requires-2 c κs = search needs
 
--- src/count.rt:116:1
+-- src/count.rt:114:1
 returns-3 : tie.Need-returns-3 Inv-loop μ-loop
 unfolding openNode openRecord
 returns-3 c = rw (

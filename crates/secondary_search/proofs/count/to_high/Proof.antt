@@ -22,23 +22,23 @@ Inv-loop t b node₀ tally₀ left₀ node tally left =
 abbrev μ-loop : tie.MeasureT-loop
 μ-loop t b node₀ tally₀ left₀ node tally left = left
 
--- src/count.rt:57:5
+-- src/count.rt:59:5
 loop-holds : tie.Need-loop-holds Inv-loop μ-loop
 loop-holds c = search needs
 
--- src/count.rt:58:9
+-- src/count.rt:60:9
 sub-left : tie.Need-sub-left Inv-loop μ-loop
 sub-left c = search needs
 
--- src/count.rt:59:13
+-- src/count.rt:61:13
 place-requires : tie.Need-place-requires Inv-loop μ-loop
 place-requires c κs = search needs
 
--- src/count.rt:61:13
+-- src/count.rt:63:13
 lost-requires : tie.Need-lost-requires Inv-loop μ-loop
 lost-requires c κs = search needs
 
--- src/count.rt:61:13
+-- src/count.rt:63:13
 returns : tie.Need-returns Inv-loop μ-loop
 unfolding highNode highRecord
 returns c =
@@ -52,30 +52,30 @@ returns c =
       ← c .lost .ensures,
     )
 
--- src/count.rt:63:13
+-- src/count.rt:65:13
 read-requires : tie.Need-read-requires Inv-loop μ-loop
 read-requires c κs =
     let at-place = c .before in
     let at-start = at-place .before .before .before .before in
     record-there (at-start .args .t .now) _ _ (at-start .pre) (at-place .place .ensures) (c .if1 .left)
 
--- src/count.rt:68:12
+-- src/count.rt:70:12
 past-y-requires : tie.Need-past-y-requires Inv-loop μ-loop
 past-y-requires c κs = search needs
 
--- src/count.rt:69:21
+-- src/count.rt:71:21
 past-requires : tie.Need-past-requires Inv-loop μ-loop
 past-requires c κs = search needs
 
--- src/count.rt:69:13
+-- src/count.rt:71:13
 visit-requires : tie.Need-visit-requires Inv-loop μ-loop
 visit-requires c κs = search needs
 
--- src/count.rt:57:5
+-- src/count.rt:59:5
 loop-less : tie.Need-loop-less Inv-loop μ-loop
 loop-less c = search needs
 
--- src/count.rt:57:5
+-- src/count.rt:59:5
 loop-again : tie.Need-loop-again Inv-loop μ-loop
 unfolding highNode highRecord
 loop-again c =
@@ -100,19 +100,19 @@ loop-again c =
       ),
     )
 
--- src/count.rt:72:13
+-- src/count.rt:74:13
 take-requires : tie.Need-take-requires Inv-loop μ-loop
 take-requires c κs = search needs
 
--- src/count.rt:73:16
+-- src/count.rt:75:16
 past-y-requires-2 : tie.Need-past-y-requires-2 Inv-loop μ-loop
 past-y-requires-2 c κs = search needs
 
--- src/count.rt:74:17
+-- src/count.rt:76:17
 past-requires-2 : tie.Need-past-requires-2 Inv-loop μ-loop
 past-requires-2 c κs = search needs
 
--- src/count.rt:74:17
+-- src/count.rt:76:17
 returns-2 : tie.Need-returns-2 Inv-loop μ-loop
 unfolding highNode highRecord
 returns-2 c =
@@ -139,15 +139,15 @@ returns-2 c =
       ← c .past2 .ensures,
     )
 
--- src/count.rt:76:13
+-- src/count.rt:78:13
 visit-requires-2 : tie.Need-visit-requires-2 Inv-loop μ-loop
 visit-requires-2 c κs = search needs
 
--- src/count.rt:57:5
+-- src/count.rt:59:5
 loop-less-2 : tie.Need-loop-less-2 Inv-loop μ-loop
 loop-less-2 c = search needs
 
--- src/count.rt:57:5
+-- src/count.rt:59:5
 loop-again-2 : tie.Need-loop-again-2 Inv-loop μ-loop
 unfolding highNode highRecord
 loop-again-2 c =
@@ -176,11 +176,11 @@ loop-again-2 c =
       ),
     )
 
--- src/count.rt:80:5
+-- src/count.rt:82:5
 lost-requires-2 : tie.Need-lost-requires-2 Inv-loop μ-loop
 lost-requires-2 c κs = search needs
 
--- src/count.rt:50:1
+-- src/count.rt:52:1
 returns-3 : tie.Need-returns-3 Inv-loop μ-loop
 unfolding highNode highRecord
 returns-3 c = rw (

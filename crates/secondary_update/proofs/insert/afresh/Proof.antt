@@ -4,24 +4,19 @@ use Rattle.secondary_update.specs.Insert.{afresh♯, rebuiltAt, putFresh
 use borrow.Author.Tests.{eq-eqb, ne-eqb}
 use Rattle.secondary_update.proofs.insert.afresh.Tie as tie
 
--- src/insert.rt:68:9
 returns : tie.Need-returns
 unfolding afresh♯ rebuiltAt putFresh
 returns c = rw (eq-eqb _ _ (c .if1 .taken))
 
--- src/insert.rt:70:9
 load-requires : tie.Need-load-requires
 load-requires c κs = search needs
 
--- src/insert.rt:71:9
 rebuild-requires : tie.Need-rebuild-requires
 rebuild-requires c κs = search needs
 
--- src/insert.rt:73:9
 same-length : tie.Need-same-length
 same-length c = search needs
 
--- src/insert.rt:73:9
 returns-2 : tie.Need-returns-2
 unfolding afresh♯ rebuiltAt putFresh
 returns-2 c =
@@ -35,15 +30,12 @@ returns-2 c =
       eq-eqb _ _ (c .if2 .taken),
     )
 
--- src/insert.rt:75:5
 store-requires : tie.Need-store-requires
 store-requires c κs = search needs
 
--- src/insert.rt:63:1
 same-length-2 : tie.Need-same-length-2
 same-length-2 c = search needs
 
--- src/insert.rt:63:1
 returns-3 : tie.Need-returns-3
 unfolding afresh♯ rebuiltAt putFresh
 returns-3 c =

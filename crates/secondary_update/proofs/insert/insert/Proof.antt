@@ -4,24 +4,24 @@ use native.Mathlib.Omega.{arith}
 use Rattle.secondary_update.specs.Insert.{auxiliaryInsert♯}
 use Rattle.secondary_update.proofs.insert.insert.Tie as tie
 
--- src/insert.rt:112:8
+-- src/insert.rt:128:8
 lacks-level-requires : tie.Need-lacks-level-requires
 lacks-level-requires c κs = search needs
 
--- src/insert.rt:113:9
+-- src/insert.rt:129:9
 same-length : tie.Need-same-length
 same-length c = search needs
 
--- src/insert.rt:113:9
+-- src/insert.rt:129:9
 returns : tie.Need-returns
 unfolding auxiliaryInsert♯
 returns c = rw (← c .before .lacks-level .ensures .0, c .if1 .taken)
 
--- src/insert.rt:119:9
+-- src/insert.rt:135:9
 auxiliary-place-requires : tie.Need-auxiliary-place-requires
 auxiliary-place-requires c κs = search needs
 
--- src/insert.rt:115:5
+-- src/insert.rt:131:5
 insert-beneath-requires : tie.Need-insert-beneath-requires
 insert-beneath-requires c κs =
     let at-if1 = c .before .before in
@@ -33,11 +33,11 @@ insert-beneath-requires c κs =
       (place .1, omega (arith, place .0, at-start .pre .1, at-start .pre .2), at-start .pre .2, level),
     )
 
--- src/insert.rt:108:1
+-- src/insert.rt:124:1
 same-length-2 : tie.Need-same-length-2
 same-length-2 c = search needs
 
--- src/insert.rt:108:1
+-- src/insert.rt:124:1
 returns-2 : tie.Need-returns-2
 unfolding auxiliaryInsert♯
 returns-2 c =

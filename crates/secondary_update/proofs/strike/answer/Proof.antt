@@ -2,7 +2,7 @@ use Rattle.secondary_update.proofs.strike.answer.Statement.{statement}
 use Rattle.secondary_update.specs.Updates.{strikeOf}
 use Rattle.secondary_update.proofs.strike.answer.Tie as tie
 
--- src/strike.rt:33:1
+-- src/strike.rt:32:1
 returns : tie.Need-returns
 unfolding strikeOf
 returns c = cc

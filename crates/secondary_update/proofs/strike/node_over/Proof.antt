@@ -3,23 +3,23 @@ use Rattle.secondary_update.proofs.strike.node_over.Statement.{statemen
 use Rattle.secondary_update.specs.Strike.{nodeOver}
 use Rattle.secondary_update.proofs.strike.node_over.Tie as tie
 
--- src/strike.rt:68:5
+-- src/strike.rt:67:5
 store-requires : tie.Need-store-requires
 store-requires c κs = search needs
 
--- src/strike.rt:69:12
+-- src/strike.rt:68:12
 over-requires : tie.Need-over-requires
 over-requires c κs = search needs
 
--- src/strike.rt:69:5
+-- src/strike.rt:68:5
 answer-requires : tie.Need-answer-requires
 answer-requires c κs = search needs
 
--- src/strike.rt:55:1
+-- src/strike.rt:54:1
 same-length : tie.Need-same-length
 same-length c = search needs
 
--- src/strike.rt:55:1
+-- src/strike.rt:54:1
 returns : tie.Need-returns
 unfolding nodeOver
 returns c =

@@ -3,19 +3,19 @@ use Rattle.secondary_update.proofs.strike.strike.Statement.{statement}
 use Rattle.secondary_update.specs.Strike.{auxiliaryStrike♯, strikeFrom}
 use Rattle.secondary_update.proofs.strike.strike.Tie as tie
 
--- src/strike.rt:160:8
+-- src/strike.rt:180:8
 lacks-level-requires : tie.Need-lacks-level-requires
 lacks-level-requires c κs = search needs
 
--- src/strike.rt:161:9
+-- src/strike.rt:181:9
 damaged-requires : tie.Need-damaged-requires
 damaged-requires c κs = search needs
 
--- src/strike.rt:161:9
+-- src/strike.rt:181:9
 same-length : tie.Need-same-length
 same-length c = search needs
 
--- src/strike.rt:161:9
+-- src/strike.rt:181:9
 returns : tie.Need-returns
 unfolding auxiliaryStrike♯ strikeFrom
 returns c = rw (
@@ -24,11 +24,11 @@ returns c = rw (
   ← c .damaged .ensures,
 )
 
--- src/strike.rt:163:9
+-- src/strike.rt:183:9
 load-auxiliary-requires : tie.Need-load-auxiliary-requires
 load-auxiliary-requires c κs = search needs
 
--- src/strike.rt:164:5
+-- src/strike.rt:184:5
 strike-beneath-requires : tie.Need-strike-beneath-requires
 strike-beneath-requires c κs =
     let at-if1 = c .before .before .before in
@@ -36,11 +36,11 @@ strike-beneath-requires c κs =
     let at-start = at-lacks-level .before .before .before in
     (at-start .pre .1, at-lacks-level .lacks-level .ensures .1 (at-if1 .if1 .left))
 
--- src/strike.rt:156:1
+-- src/strike.rt:176:1
 same-length-2 : tie.Need-same-length-2
 same-length-2 c = search needs
 
--- src/strike.rt:156:1
+-- src/strike.rt:176:1
 returns-2 : tie.Need-returns-2
 unfolding auxiliaryStrike♯ strikeFrom
 returns-2 c =

@@ -3,27 +3,27 @@ use Rattle.secondary_update.proofs.strike.strike_afresh.Statement.{stat
 use Rattle.secondary_update.specs.Strike.{freshStrike, strikeAfresh}
 use Rattle.secondary_update.proofs.strike.strike_afresh.Tie as tie
 
--- src/strike.rt:83:9
+-- src/strike.rt:110:9
 fewer-requires : tie.Need-fewer-requires
 fewer-requires c κs = search needs
 
--- src/strike.rt:84:9
+-- src/strike.rt:111:9
 rebuild-requires : tie.Need-rebuild-requires
 rebuild-requires c κs = search needs
 
--- src/strike.rt:85:9
+-- src/strike.rt:112:9
 run-slot-requires : tie.Need-run-slot-requires
 run-slot-requires c κs = search needs
 
--- src/strike.rt:86:5
+-- src/strike.rt:113:5
 answer-requires : tie.Need-answer-requires
 answer-requires c κs = search needs
 
--- src/strike.rt:72:1
+-- src/strike.rt:99:1
 same-length : tie.Need-same-length
 same-length c = search needs
 
--- src/strike.rt:72:1
+-- src/strike.rt:99:1
 returns : tie.Need-returns
 unfolding strikeAfresh freshStrike
 returns c =

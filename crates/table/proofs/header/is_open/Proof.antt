@@ -2,11 +2,11 @@ use borrow.Author.Needs.{needs}
 use Rattle.table.proofs.header.is_open.Statement.{statement}
 use Rattle.table.proofs.header.is_open.Tie as tie
 
--- src/header.rt:12:5
+-- src/header.rt:15:5
 word-requires : tie.Need-word-requires
 word-requires c κs = search needs
 
--- src/header.rt:9:1
+-- src/header.rt:12:1
 returns : tie.Need-returns
 returns c = rw (← c .word .ensures)
 

@@ -4,12 +4,12 @@ use borrow.Author.Tests.{le-ltb, lt-ltb}
 use borrow.Author.Needs.{needs}
 use Rattle.table.proofs.runs.as_slot.Tie as tie
 
--- src/runs.rt:110:9
+-- src/runs.rt:77:9
 returns : tie.Need-returns
 unfolding asSlot
 returns c = (rw (lt-ltb _ _ (c .if1 .taken)), search needs)
 
--- src/runs.rt:104:1
+-- src/runs.rt:71:1
 returns-2 : tie.Need-returns-2
 unfolding asSlot
 returns-2 c = (rw (le-ltb _ _ (c .if1 .left)), search needs)

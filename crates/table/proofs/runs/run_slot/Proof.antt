@@ -3,15 +3,15 @@ use Rattle.table.proofs.runs.run_slot.Statement.{statement}
 use Rattle.table.specs.Runs.{runSlot}
 use Rattle.table.proofs.runs.run_slot.Tie as tie
 
--- src/runs.rt:121:23
+-- src/runs.rt:88:23
 load-run-requires : tie.Need-load-run-requires
 load-run-requires c κs = search needs
 
--- src/runs.rt:121:5
+-- src/runs.rt:88:5
 as-slot-requires : tie.Need-as-slot-requires
 as-slot-requires c κs = search needs
 
--- src/runs.rt:116:1
+-- src/runs.rt:83:1
 returns : tie.Need-returns
 unfolding runSlot
 returns c = (rw (← c .before .load-run .ensures, ← c .as-slot .ensures .0), search needs)

@@ -3,12 +3,10 @@ use Rattle.table.specs.Words.{greater}
 use borrow.Author.Tests.{le-ltb, lt-ltb}
 use Rattle.table.proofs.words.greater.Tie as tie
 
--- src/weights.rt:50:1
 returns : tie.Need-returns
 unfolding greater
 returns c = rw (lt-ltb _ _ (c .if1 .taken))
 
--- src/weights.rt:50:1
 returns-2 : tie.Need-returns-2
 unfolding greater
 returns-2 c = rw (le-ltb _ _ (c .if1 .left))

@@ -3,12 +3,10 @@ use borrow.Author.Tests.{le-ltb, lt-ltb}
 use Rattle.table.specs.Words.{lesser}
 use Rattle.table.proofs.words.lesser.Tie as tie
 
--- src/weights.rt:44:1
 returns : tie.Need-returns
 unfolding lesser
 returns c = rw (lt-ltb _ _ (c .if1 .taken))
 
--- src/weights.rt:44:1
 returns-2 : tie.Need-returns-2
 unfolding lesser
 returns-2 c = rw (le-ltb _ _ (c .if1 .left))

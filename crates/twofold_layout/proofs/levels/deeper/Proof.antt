@@ -3,19 +3,19 @@ use Rattle.twofold_layout.proofs.levels.deeper.Statement.{statement}
 use Rattle.twofold_layout.specs.Levels.{deeper}
 use Rattle.twofold_layout.proofs.levels.deeper.Tie as tie
 
--- src/levels.rt:16:23
+-- src/levels.rt:17:23
 mul-result : tie.Need-mul-result
 mul-result c = search needs
 
--- src/levels.rt:16:7
+-- src/levels.rt:17:7
 add-result : tie.Need-add-result
 add-result c = search needs
 
--- src/levels.rt:16:5
+-- src/levels.rt:17:5
 cast-result : tie.Need-cast-result
 cast-result c = search needs
 
--- src/levels.rt:13:1
+-- src/levels.rt:14:1
 returns : tie.Need-returns
 unfolding deeper
 returns c = search needs

@@ -16,29 +16,29 @@ Inv-loop t₀ capacity left₀ t left =
 abbrev μ-loop : tie.MeasureT-loop
 μ-loop t₀ capacity left₀ t left = left
 
--- src/empty.rt:13:5
+-- src/empty.rt:17:5
 loop-holds : tie.Need-loop-holds Inv-loop μ-loop
 loop-holds c = search needs
 
--- src/empty.rt:14:9
+-- src/empty.rt:18:9
 sub-left : tie.Need-sub-left Inv-loop μ-loop
 sub-left c = search needs
 
--- src/empty.rt:15:9
+-- src/empty.rt:19:9
 put-used-requires : tie.Need-put-used-requires Inv-loop μ-loop
 put-used-requires c κs = search needs
 
--- src/empty.rt:16:9
+-- src/empty.rt:20:9
 put-place-requires : tie.Need-put-place-requires Inv-loop μ-loop
 put-place-requires c κs = search needs
 
--- src/empty.rt:13:5
+-- src/empty.rt:17:5
 loop-less : tie.Need-loop-less Inv-loop μ-loop
 loop-less c =
     let at-loop-test = c .before .before .before .before .before .before .before .before in
     omega (arith, at-loop-test .loop-test .taken)
 
--- src/empty.rt:13:5
+-- src/empty.rt:17:5
 loop-again : tie.Need-loop-again Inv-loop μ-loop
 unfolding ownPlace
 loop-again c =
@@ -56,11 +56,11 @@ loop-again c =
       ),
     )
 
--- src/empty.rt:9:1
+-- src/empty.rt:13:1
 same-length : tie.Need-same-length Inv-loop μ-loop
 same-length c = search needs
 
--- src/empty.rt:9:1
+-- src/empty.rt:13:1
 returns : tie.Need-returns Inv-loop μ-loop
 returns c = rw (← c .before .loop .inv .2, freeSlots♯-zero _ (nothing _ (c .loop-test .left)))
 

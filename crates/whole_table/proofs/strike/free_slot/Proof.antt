@@ -4,51 +4,51 @@ use Rattle.whole_table.proofs.strike.free_slot.Statement.{statement}
 use Rattle.whole_table.specs.Strike.{exchanged, freeSlot♯, freeWithin}
 use Rattle.whole_table.proofs.strike.free_slot.Tie as tie
 
--- src/strike.rt:15:9
+-- src/strike.rt:16:9
 capacity-requires : tie.Need-capacity-requires
 capacity-requires c κs = search needs
 
--- src/strike.rt:16:31
+-- src/strike.rt:17:31
 live-requires : tie.Need-live-requires
 live-requires c κs = search needs
 
--- src/strike.rt:16:9
+-- src/strike.rt:17:9
 fewer-requires : tie.Need-fewer-requires
 fewer-requires c κs = search needs
 
--- src/strike.rt:17:9
+-- src/strike.rt:18:9
 place-requires : tie.Need-place-requires
 place-requires c κs = search needs
 
--- src/strike.rt:18:9
+-- src/strike.rt:19:9
 used-requires : tie.Need-used-requires
 used-requires c κs = search needs
 
--- src/strike.rt:19:5
+-- src/strike.rt:20:5
 put-used-requires : tie.Need-put-used-requires
 put-used-requires c κs = search needs
 
--- src/strike.rt:20:5
+-- src/strike.rt:21:5
 put-place-requires : tie.Need-put-place-requires
 put-place-requires c κs = search needs
 
--- src/strike.rt:21:5
+-- src/strike.rt:22:5
 put-used-requires-2 : tie.Need-put-used-requires-2
 put-used-requires-2 c κs = search needs
 
--- src/strike.rt:22:5
+-- src/strike.rt:23:5
 put-place-requires-2 : tie.Need-put-place-requires-2
 put-place-requires-2 c κs = search needs
 
--- src/strike.rt:23:5
+-- src/strike.rt:24:5
 put-live-requires : tie.Need-put-live-requires
 put-live-requires c κs = search needs
 
--- src/strike.rt:12:1
+-- src/strike.rt:13:1
 same-length : tie.Need-same-length
 same-length c = search needs
 
--- src/strike.rt:12:1
+-- src/strike.rt:13:1
 returns : tie.Need-returns
 unfolding freeSlot♯ freeWithin exchanged
 returns c =

@@ -3,23 +3,23 @@ use Rattle.nodes.proofs.arm.Record.store.Statement.{statement}
 use Rattle.nodes.specs.Arms.{putRecord}
 use Rattle.nodes.proofs.arm.Record.store.Tie as tie
 
--- src/arm.rt:146:9
+-- src/arm.rt:172:9
 store-requires : tie.Need-store-requires
 store-requires c κs = search needs
 
--- src/arm.rt:147:23
+-- src/arm.rt:173:23
 add-store : tie.Need-add-store
 add-store c = search needs
 
--- src/arm.rt:147:9
+-- src/arm.rt:173:9
 store-requires-2 : tie.Need-store-requires-2
 store-requires-2 c κs = search needs
 
--- src/arm.rt:142:5
+-- src/arm.rt:168:5
 same-length : tie.Need-same-length
 same-length c = search needs
 
--- src/arm.rt:142:5
+-- src/arm.rt:168:5
 returns : tie.Need-returns
 unfolding putRecord
 returns c =

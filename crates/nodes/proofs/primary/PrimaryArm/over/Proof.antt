@@ -2,23 +2,23 @@ use borrow.Author.Needs.{needs}
 use Rattle.nodes.proofs.primary.PrimaryArm.over.Statement.{statement}
 use Rattle.nodes.proofs.primary.PrimaryArm.over.Tie as tie
 
--- src/primary.rt:102:40
+-- src/primary.rt:140:40
 bare-requires : tie.Need-bare-requires
 bare-requires c κs = search needs
 
--- src/primary.rt:102:50
+-- src/primary.rt:140:50
 bare-requires-2 : tie.Need-bare-requires-2
 bare-requires-2 c κs = search needs
 
--- src/primary.rt:102:24
+-- src/primary.rt:140:24
 over-requires : tie.Need-over-requires
 over-requires c κs = search needs
 
--- src/primary.rt:102:9
+-- src/primary.rt:140:9
 of-requires : tie.Need-of-requires
 of-requires c κs = search needs
 
--- src/primary.rt:99:5
+-- src/primary.rt:137:5
 returns : tie.Need-returns
 returns c =
     let at-bare2 = c .before .before in

@@ -2,19 +2,19 @@ use borrow.Author.Needs.{needs}
 use Rattle.nodes.proofs.primary.PrimaryArm.store.Statement.{statement}
 use Rattle.nodes.proofs.primary.PrimaryArm.store.Tie as tie
 
--- src/primary.rt:125:27
+-- src/primary.rt:163:27
 bare-requires : tie.Need-bare-requires
 bare-requires c κs = search needs
 
--- src/primary.rt:125:9
+-- src/primary.rt:163:9
 store-requires : tie.Need-store-requires
 store-requires c κs = search needs
 
--- src/primary.rt:121:5
+-- src/primary.rt:159:5
 same-length : tie.Need-same-length
 same-length c = search needs
 
--- src/primary.rt:121:5
+-- src/primary.rt:159:5
 returns : tie.Need-returns
 returns c =
     let at-store = c .before .before in

@@ -3,11 +3,11 @@ use borrow.Author.Needs.{needs}
 use Rattle.nodes.proofs.primary.PrimaryRecord.fork.Statement.{statement}
 use Rattle.nodes.proofs.primary.PrimaryRecord.fork.Tie as tie
 
--- src/primary.rt:221:13
+-- src/primary.rt:223:13
 way-requires : tie.Need-way-requires
 way-requires c κs = search needs
 
--- src/primary.rt:215:5
+-- src/primary.rt:217:5
 returns : tie.Need-returns
 returns c =
     let way = c .before .before .way .ensures in (

@@ -2,35 +2,35 @@ use borrow.Author.Needs.{needs}
 use Rattle.nodes.proofs.primary.PrimaryRecord.store.Statement.{statement}
 use Rattle.nodes.proofs.primary.PrimaryRecord.store.Tie as tie
 
--- src/primary.rt:181:13
+-- src/primary.rt:188:13
 add-store : tie.Need-add-store
 add-store c = search needs
 
--- src/primary.rt:181:45
+-- src/primary.rt:188:45
 mul-store : tie.Need-mul-store
 mul-store c = search needs
 
--- src/primary.rt:181:13
+-- src/primary.rt:188:13
 add-store-2 : tie.Need-add-store-2
 add-store-2 c = search needs
 
--- src/primary.rt:182:13
+-- src/primary.rt:189:13
 bare-requires : tie.Need-bare-requires
 bare-requires c κs = search needs
 
--- src/primary.rt:183:13
+-- src/primary.rt:190:13
 bare-requires-2 : tie.Need-bare-requires-2
 bare-requires-2 c κs = search needs
 
--- src/primary.rt:179:9
+-- src/primary.rt:186:9
 store-requires : tie.Need-store-requires
 store-requires c κs = search needs
 
--- src/primary.rt:175:5
+-- src/primary.rt:182:5
 same-length : tie.Need-same-length
 same-length c = search needs
 
--- src/primary.rt:175:5
+-- src/primary.rt:182:5
 returns : tie.Need-returns
 returns c =
     let at-store = c .before .before in

@@ -4,19 +4,19 @@ use Rattle.nodes.specs.Ways.{wayAt}
 use Rattle.nodes.specs.Arms.{wayOf}
 use Rattle.nodes.proofs.primary.PrimaryRecord.way.Tie as tie
 
--- src/primary.rt:196:13
+-- src/primary.rt:199:13
 load-requires : tie.Need-load-requires
 load-requires c κs = search needs
 
--- src/primary.rt:199:22
+-- src/primary.rt:202:22
 load-requires-2 : tie.Need-load-requires-2
 load-requires-2 c κs = search needs
 
--- src/primary.rt:199:12
+-- src/primary.rt:202:12
 below-x-requires : tie.Need-below-x-requires
 below-x-requires c κs = search needs
 
--- src/primary.rt:200:13
+-- src/primary.rt:203:13
 returns : tie.Need-returns
 unfolding wayAt wayOf
 returns c =
@@ -24,7 +24,7 @@ returns c =
     let at-load = at-load2 .before .before .before in
     rw (← at-load .load .ensures, ← at-load2 .load2 .ensures, ← c .before .below-x .ensures, c .if1 .taken)
 
--- src/primary.rt:192:5
+-- src/primary.rt:195:5
 returns-2 : tie.Need-returns-2
 unfolding wayAt wayOf
 returns-2 c =

@@ -2,19 +2,19 @@ use borrow.Author.Needs.{needs}
 use Rattle.nodes.proofs.secondary.SecondaryArm.grown.Statement.{statement}
 use Rattle.nodes.proofs.secondary.SecondaryArm.grown.Tie as tie
 
--- src/secondary.rt:108:13
+-- src/secondary.rt:161:13
 bare-requires : tie.Need-bare-requires
 bare-requires c κs = search needs
 
--- src/secondary.rt:109:26
+-- src/secondary.rt:162:26
 grown-requires : tie.Need-grown-requires
 grown-requires c κs = search needs
 
--- src/secondary.rt:109:9
+-- src/secondary.rt:162:9
 of-requires : tie.Need-of-requires
 of-requires c κs = search needs
 
--- src/secondary.rt:105:5
+-- src/secondary.rt:158:5
 returns : tie.Need-returns
 returns c = rw (← c .before .before .bare .ensures, ← c .before .grown .ensures, ← c .of .ensures)
 

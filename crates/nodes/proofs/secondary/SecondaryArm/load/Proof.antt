@@ -3,15 +3,15 @@ use Rattle.nodes.proofs.secondary.SecondaryArm.load.Statement.{statemen
 use Rattle.nodes.specs.Arms.{armAt}
 use Rattle.nodes.proofs.secondary.SecondaryArm.load.Tie as tie
 
--- src/secondary.rt:117:26
+-- src/secondary.rt:170:26
 load-requires : tie.Need-load-requires
 load-requires c κs = search needs
 
--- src/secondary.rt:117:9
+-- src/secondary.rt:170:9
 of-requires : tie.Need-of-requires
 of-requires c κs = search needs
 
--- src/secondary.rt:113:5
+-- src/secondary.rt:166:5
 returns : tie.Need-returns
 unfolding armAt
 returns c = rw (← c .before .load .ensures, ← c .of .ensures)

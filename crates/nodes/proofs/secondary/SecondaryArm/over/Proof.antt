@@ -2,23 +2,23 @@ use borrow.Author.Needs.{needs}
 use Rattle.nodes.proofs.secondary.SecondaryArm.over.Statement.{statement}
 use Rattle.nodes.proofs.secondary.SecondaryArm.over.Tie as tie
 
--- src/secondary.rt:101:42
+-- src/secondary.rt:154:42
 bare-requires : tie.Need-bare-requires
 bare-requires c κs = search needs
 
--- src/secondary.rt:101:52
+-- src/secondary.rt:154:52
 bare-requires-2 : tie.Need-bare-requires-2
 bare-requires-2 c κs = search needs
 
--- src/secondary.rt:101:26
+-- src/secondary.rt:154:26
 over-requires : tie.Need-over-requires
 over-requires c κs = search needs
 
--- src/secondary.rt:101:9
+-- src/secondary.rt:154:9
 of-requires : tie.Need-of-requires
 of-requires c κs = search needs
 
--- src/secondary.rt:98:5
+-- src/secondary.rt:151:5
 returns : tie.Need-returns
 returns c =
     let at-bare2 = c .before .before in

@@ -2,19 +2,19 @@ use borrow.Author.Needs.{needs}
 use Rattle.nodes.proofs.secondary.SecondaryArm.store.Statement.{statement}
 use Rattle.nodes.proofs.secondary.SecondaryArm.store.Tie as tie
 
--- src/secondary.rt:124:27
+-- src/secondary.rt:177:27
 bare-requires : tie.Need-bare-requires
 bare-requires c κs = search needs
 
--- src/secondary.rt:124:9
+-- src/secondary.rt:177:9
 store-requires : tie.Need-store-requires
 store-requires c κs = search needs
 
--- src/secondary.rt:120:5
+-- src/secondary.rt:173:5
 same-length : tie.Need-same-length
 same-length c = search needs
 
--- src/secondary.rt:120:5
+-- src/secondary.rt:173:5
 returns : tie.Need-returns
 returns c =
     let at-store = c .before .before in
