@@ -182,22 +182,7 @@ impl Box {
         NewBox::Valid(Box { x1, x2, y1, y2 })
     }
 
-    pub fn holds(self, m: Mark) -> bool
-        ensures { λ r. ⌜ r ≡ holds (boxValue self) (markValue m) ⌝ }
-    {
-        if m.x < self.x1 {
-            return false;
-        }
-        if self.x2 < m.x {
-            return false;
-        }
-        if m.y < self.y1 {
-            return false;
-        }
-        m.y <= self.y2
-    }
-
-    // A coordinate lies before the box's side along x.
+    // A coordinate lies before the box's side along x. The four ends are compared here and in the next three, and nowhere else.
     pub fn before_x(self, v: u32) -> bool
         ensures { λ r. ⌜ r ≡ not (alongX .fromLow (boxValue self) v) ⌝ }
     {
@@ -223,41 +208,50 @@ impl Box {
         self.y2 < v
     }
 
+    pub fn holds(self, m: Mark) -> bool
+        ensures { λ r. ⌜ r ≡ holds (boxValue self) (markValue m) ⌝ }
+    {
+        if self.inside_x(m.x, m.x) {
+            return self.inside_y(m.y, m.y);
+        }
+        false
+    }
+
     // A cell from least to greatest lies inside the box's side along x.
     pub fn inside_x(self, least: u32, greatest: u32) -> bool
         ensures { λ r. ⌜ r ≡ cellInside alongX (boxValue self) least greatest ⌝ }
     {
-        if least < self.x1 {
+        if self.before_x(least) {
             return false;
         }
-        greatest <= self.x2
+        !self.past_x(greatest)
     }
 
     // A cell lies clear of that side.
     pub fn clear_x(self, least: u32, greatest: u32) -> bool
         ensures { λ r. ⌜ r ≡ cellClear alongX (boxValue self) least greatest ⌝ }
     {
-        if greatest < self.x1 {
+        if self.before_x(greatest) {
             return true;
         }
-        self.x2 < least
+        self.past_x(least)
     }
 
     pub fn inside_y(self, least: u32, greatest: u32) -> bool
         ensures { λ r. ⌜ r ≡ cellInside alongY (boxValue self) least greatest ⌝ }
     {
-        if least < self.y1 {
+        if self.before_y(least) {
             return false;
         }
-        greatest <= self.y2
+        !self.past_y(greatest)
     }
 
     pub fn clear_y(self, least: u32, greatest: u32) -> bool
         ensures { λ r. ⌜ r ≡ cellClear alongY (boxValue self) least greatest ⌝ }
     {
-        if greatest < self.y1 {
+        if self.before_y(greatest) {
             return true;
         }
-        self.y2 < least
+        self.past_y(least)
     }
 }

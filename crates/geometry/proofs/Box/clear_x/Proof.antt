@@ -1,17 +1,23 @@
--- `Box::clear_x` meets its contract. Assumes nothing.
-use mathlib.Core.Path.{sym}
-use Rattle.model.specs.Sheet.{fromX1, toX2}
-use Rattle.geometry.proofs.Sides.{clear-ends-before, clear-ends-within}
+-- `Box::clear_x` meets its contract: by the tests of the cell's two ends. Assumes nothing.
+use borrow.Author.Needs.{needs}
 use Rattle.geometry.proofs.Box.clear_x.Statement.{statement}
 use Rattle.geometry.proofs.Box.clear_x.Tie as tie
 
-returns : tie.Need-returns
-unfolding fromX1 toX2
-returns c = let a = c .before .before .args in sym (clear-ends-before (a .self .x1) (a .self .x2) (a .least) (a .greatest) (c .if1 .taken))
+-- src/lib.rt:234:12
+before-x-requires : tie.Need-before-x-requires
+before-x-requires c κs = search needs
 
+-- src/lib.rt:235:13
+returns : tie.Need-returns
+returns c = rw (← c .before .before-x .ensures, c .if1 .taken)
+
+-- src/lib.rt:237:9
+past-x-requires : tie.Need-past-x-requires
+past-x-requires c κs = search needs
+
+-- src/lib.rt:231:5
 returns-2 : tie.Need-returns-2
-unfolding fromX1 toX2
-returns-2 c = let a = c .before .before .before .args in sym (clear-ends-within (a .self .x1) (a .self .x2) (a .least) (a .greatest) (c .before .if1 .left))
+returns-2 c = rw (← c .before .before .before-x .ensures, c .before .if1 .left) (c .past-x .ensures)
 
 pub clear-x-spec : {M : Type 1} → statement M
-clear-x-spec = tie.close (tie.spec returns returns-2)
+clear-x-spec = tie.close (tie.spec before-x-requires returns past-x-requires returns-2)

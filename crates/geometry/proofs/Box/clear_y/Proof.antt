@@ -1,17 +1,23 @@
--- `Box::clear_y` meets its contract. Assumes nothing.
-use mathlib.Core.Path.{sym}
-use Rattle.model.specs.Sheet.{fromY1, toY2}
-use Rattle.geometry.proofs.Sides.{clear-ends-before, clear-ends-within}
+-- `Box::clear_y` meets its contract: by the tests of the cell's two ends. Assumes nothing.
+use borrow.Author.Needs.{needs}
 use Rattle.geometry.proofs.Box.clear_y.Statement.{statement}
 use Rattle.geometry.proofs.Box.clear_y.Tie as tie
 
-returns : tie.Need-returns
-unfolding fromY1 toY2
-returns c = let a = c .before .before .args in sym (clear-ends-before (a .self .y1) (a .self .y2) (a .least) (a .greatest) (c .if1 .taken))
+-- src/lib.rt:252:12
+before-y-requires : tie.Need-before-y-requires
+before-y-requires c κs = search needs
 
+-- src/lib.rt:253:13
+returns : tie.Need-returns
+returns c = rw (← c .before .before-y .ensures, c .if1 .taken)
+
+-- src/lib.rt:255:9
+past-y-requires : tie.Need-past-y-requires
+past-y-requires c κs = search needs
+
+-- src/lib.rt:249:5
 returns-2 : tie.Need-returns-2
-unfolding fromY1 toY2
-returns-2 c = let a = c .before .before .before .args in sym (clear-ends-within (a .self .y1) (a .self .y2) (a .least) (a .greatest) (c .before .if1 .left))
+returns-2 c = rw (← c .before .before .before-y .ensures, c .before .if1 .left) (c .past-y .ensures)
 
 pub clear-y-spec : {M : Type 1} → statement M
-clear-y-spec = tie.close (tie.spec returns returns-2)
+clear-y-spec = tie.close (tie.spec before-y-requires returns past-y-requires returns-2)

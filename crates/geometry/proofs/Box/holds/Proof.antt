@@ -1,34 +1,26 @@
--- `Box::holds` meets its contract: each return by the ends that it has compared. Assumes nothing.
-use mathlib.Core.Path.{sym}
-use native.Mathlib.Omega.{arith}
-use Rattle.model.specs.Sheet.{fromX1, toX2, fromY1, toY2, holds}
-use Rattle.geometry.proofs.Sides.{holds-x-before, holds-x-after, holds-y-before, holds-y-within}
+-- `Box::holds` meets its contract: a place is a cell with one coordinate along each axis. Assumes nothing.
+use borrow.Author.Needs.{needs}
+use Rattle.model.specs.Sheet.{holds}
 use Rattle.geometry.proofs.Box.holds.Statement.{statement}
 use Rattle.geometry.proofs.Box.holds.Tie as tie
 
+-- src/lib.rt:214:12
+inside-x-requires : tie.Need-inside-x-requires
+inside-x-requires c κs = search needs
+
+-- src/lib.rt:215:13
+inside-y-requires : tie.Need-inside-y-requires
+inside-y-requires c κs = search needs
+
+-- src/lib.rt:215:13
 returns : tie.Need-returns
-unfolding holds fromX1 toX2 fromY1 toY2
-returns c =
-    let a = c .before .before .before .args in
-    sym (holds-x-before (a .self .x1) (a .self .x2) (a .self .y1) (a .self .y2) (a .m .x) (a .m .y) (omega arith))
+unfolding holds
+returns c = rw (← c .before .before .inside-x .ensures, c .before .if1 .taken) (c .inside-y .ensures)
 
+-- src/lib.rt:211:5
 returns-2 : tie.Need-returns-2
-unfolding holds fromX1 toX2 fromY1 toY2
-returns-2 c =
-    let a = c .before .before .before .before .before .before .args in
-    sym (holds-x-after (a .self .x1) (a .self .x2) (a .self .y1) (a .self .y2) (a .m .x) (a .m .y) (omega arith) (omega arith))
-
-returns-3 : tie.Need-returns-3
-unfolding holds fromX1 toX2 fromY1 toY2
-returns-3 c =
-    let a = c .before .before .before .before .before .before .before .before .before .args in
-    sym (holds-y-before (a .self .x1) (a .self .x2) (a .self .y1) (a .self .y2) (a .m .x) (a .m .y) (omega arith) (omega arith) (omega arith))
-
-returns-4 : tie.Need-returns-4
-unfolding holds fromX1 toX2 fromY1 toY2
-returns-4 c =
-    let a = c .before .before .before .before .before .before .before .before .before .before .before .args in
-    sym (holds-y-within (a .self .x1) (a .self .x2) (a .self .y1) (a .self .y2) (a .m .x) (a .m .y) (omega arith) (omega arith) (omega arith))
+unfolding holds
+returns-2 c = rw (← c .before .inside-x .ensures, c .if1 .left)
 
 pub holds-spec : {M : Type 1} → statement M
-holds-spec = tie.close (tie.spec returns returns-2 returns-3 returns-4)
+holds-spec = tie.close (tie.spec inside-x-requires inside-y-requires returns returns-2)

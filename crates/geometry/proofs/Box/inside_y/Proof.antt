@@ -1,17 +1,32 @@
--- `Box::inside_y` meets its contract. Assumes nothing.
-use mathlib.Core.Path.{sym}
-use Rattle.model.specs.Sheet.{fromY1, toY2}
-use Rattle.geometry.proofs.Sides.{inside-starts-before, inside-starts-within}
+-- `Box::inside_y` meets its contract: by the tests of the cell's two ends. Assumes nothing.
+use borrow.Author.Needs.{needs}
+use Rattle.model.specs.Sheet.{alongY}
+use Rattle.geometry.specs.Values.{boxValue}
+use Rattle.geometry.proofs.Sides.{inside-before, inside-within}
 use Rattle.geometry.proofs.Box.inside_y.Statement.{statement}
 use Rattle.geometry.proofs.Box.inside_y.Tie as tie
 
-returns : tie.Need-returns
-unfolding fromY1 toY2
-returns c = let a = c .before .before .args in sym (inside-starts-before (a .self .y1) (a .self .y2) (a .least) (a .greatest) (c .if1 .taken))
+-- src/lib.rt:243:12
+before-y-requires : tie.Need-before-y-requires
+before-y-requires c κs = search needs
 
+-- src/lib.rt:244:13
+returns : tie.Need-returns
+returns c =
+    let a = c .before .before .args in
+    inside-before (alongY .fromLow (boxValue (a .self)) (a .least)) (alongY .toHigh (boxValue (a .self)) (a .greatest))
+    (c .before .before-y .ensures) (c .if1 .taken)
+
+-- src/lib.rt:246:10
+past-y-requires : tie.Need-past-y-requires
+past-y-requires c κs = search needs
+
+-- src/lib.rt:240:5
 returns-2 : tie.Need-returns-2
-unfolding fromY1 toY2
-returns-2 c = let a = c .before .before .before .args in sym (inside-starts-within (a .self .y1) (a .self .y2) (a .least) (a .greatest) (c .before .if1 .left))
+returns-2 c =
+    let a = c .before .before .before .args in
+    inside-within (alongY .fromLow (boxValue (a .self)) (a .least)) (alongY .toHigh (boxValue (a .self)) (a .greatest))
+    (c .before .before .before-y .ensures) (c .before .if1 .left) (c .past-y .ensures)
 
 pub inside-y-spec : {M : Type 1} → statement M
-inside-y-spec = tie.close (tie.spec returns returns-2)
+inside-y-spec = tie.close (tie.spec before-y-requires returns past-y-requires returns-2)
