@@ -138,7 +138,7 @@ public:
     Counted count(Pane p) const {
         Counted c;
         for (size_t i = 0; i < x.size(); i++) {
-            uint32_t in = (p.x1 <= x[i]) & (x[i] <= p.x2) & (p.y1 <= y[i]) & (y[i] <= p.y2), g = in * grade[i];
+            uint32_t in = (p.x1 <= x[i]) & (x[i] < p.x2) & (p.y1 <= y[i]) & (y[i] < p.y2), g = in * grade[i];
             c.marks += in;
             c.sum += g;
             c.worst = std::max(c.worst, g);
@@ -174,14 +174,14 @@ public:
         return 0;
     }
 
-    // Goes through what is found without keeping it.
+    // Goes through what is found without keeping it. Boost's boxes have all their ends, and no trial pane is empty.
     Counted count(Pane p) const {
         Counted c;
         auto each = [&c](const Value &v) {
             c.sum += v.second.grade;
             c.worst = std::max(c.worst, v.second.grade);
         };
-        Box box(Point(p.x1, p.y1), Point(p.x2, p.y2));
+        Box box(Point(p.x1, p.y1), Point(p.x2 - 1, p.y2 - 1));
         c.marks = static_cast<uint32_t>(tree.query(boost::geometry::index::intersects(box), boost::make_function_output_iterator(each)));
         return c;
     }

@@ -15,8 +15,9 @@ struct mark {
 /* The fourth was seen before, with another grade; the sixth lies off the sheet; the seventh has no grade; and for the last there is no room. */
 static const struct mark seen[] = {{12000, 40000, 1, 100}, {12000, 8000, 2, 15}, {55500, 21000, 3, 90}, {12000, 40000, 1, 60},
                                    {999999, 0, 4, 1},      {1000000, 0, 5, 30},  {61000, 21000, 6, 0},  {61000, 21000, 6, 20},
-                                   {60200, 20500, 7, 45},  {60200, 20500, 8, 5}, {30000, 30000, 9, 2},  {5, 5, 10, 100}};
+                                   {60200, 20500, 7, 45},  {60200, 20500, 8, 5}, {50000, 30000, 9, 2},  {5, 5, 10, 100}};
 static const struct mark washed[] = {{12000, 8000, 2, 15}, {55500, 21000, 3, 90}, {70000, 70000, 11, 1}};
+/* The first two share the cut at 50000, on which mark 9 lies: it is the second's alone. The last is the wrong way round. */
 static const uint32_t panes[PANES][4] = {{0, 50000, 0, 50000}, {50000, 100000, 0, 50000}, {100000, UINT32_MAX, 0, UINT32_MAX}, {50000, 0, 0, 50000}};
 
 static const char *meaning(uint32_t number) {

@@ -3,7 +3,10 @@
  * A mark is x, y, tag and a grade: x and y count hundredths of a millimetre, 0 to 999,999, the tag
  * is any word, and the grade is 1 to 100, 100 the worst. Two marks are the same exactly if x, y and tag
  * agree: the grade is no part of that, nor of any order. A box is x1, x2, y1, y2, any words with
- * x1 <= x2 and y1 <= y2. It holds a mark when x1 <= x <= x2 and y1 <= y <= y2.
+ * x1 <= x2 and y1 <= y2. It holds a mark when x1 <= x < x2 and y1 <= y < y2: its low ends are in it
+ * and its high ends are not. So panes that share a cut share no mark, one on the cut is in the pane on
+ * the far side, and the counts and sums of panes laid edge to edge are those of the whole. A box with
+ * x1 = x2 or y1 = y2 is empty, and no error. The whole sheet is 0, 1000000, 0, 1000000.
  *
  * A table is a run of words that the caller lends to each call, register_words(capacity) of them or
  * more. It is the caller's memory, and nothing is kept anywhere else: the library allocates nothing,
@@ -45,7 +48,7 @@ enum {
     REGISTER_UNSOUND = 4,       /* the words of the table hold no tree, or tell of more marks than
                                    are live */
     REGISTER_MARK_OUTSIDE = 5,  /* x or y is above REGISTER_LARGEST_COORDINATE */
-    REGISTER_BOX_CROSSED = 6,   /* x1 > x2 or y1 > y2 */
+    REGISTER_BOX_CROSSED = 6,   /* x1 > x2 or y1 > y2; a box with equal ends is empty, not crossed */
     REGISTER_FULL = 7,          /* as many marks are live as the capacity says */
     REGISTER_PRESENT = 8,       /* the same mark is live, whatever its grade */
     REGISTER_ABSENT = 9,        /* no such mark is live */
@@ -84,7 +87,8 @@ uint32_t register_insert(uint32_t *table, size_t words, uint32_t x, uint32_t y, 
 uint32_t register_strike(uint32_t *table, size_t words, uint32_t x, uint32_t y, uint32_t tag,
                          uint32_t *live, uint32_t *rebuilt);
 
-/* Counts the marks that a box holds, and sums up their grades.
+/* Counts the marks that a box holds, and sums up their grades. Where a line cuts a box in two, count
+ * and sum of the whole are the totals of both parts, and worst is the greater.
  * Refuses by: REGISTER_NOT_A_TABLE, REGISTER_BOX_CROSSED; REGISTER_UNSOUND.
  * *count: the marks. *visits: how many nodes of the trees the search came to. *sum: the sum of the
  * marks' grades. *worst: the greatest of their grades. A box without marks has 0 for both. */

@@ -1,4 +1,4 @@
-/* Document 01's "Sheets to try", P3 to P12, and its sample, as R-1 restates them, call by call, as a table; and what is refused for a grade. (P1 and P2 are in
+/* Document 01's "Sheets to try", P3 to P12, and its sample, as R-1 and R-2 restate them, call by call, as a table; what is refused for a grade; and R-2's ends and empty boxes. (P1 and P2 are in
    sizes_test.c.) */
 #include "calls.h"
 #include "check.h"
@@ -40,7 +40,7 @@ static void try_rows(const struct loan *l) {
         {"P3", 104, opening(1), {.live = 0}},
         {"P4", 104, pane(0, UINT32_MAX, 0, UINT32_MAX), {.count = 0, .visits = 0, .sum = 0, .worst = 0}},
         {"P5", 104, enter(7, 8, 9, 3), {.live = 1}},
-        {"P5", 104, pane(7, 7, 8, 8), {.count = 1, .visits = 1, .sum = 3, .worst = 3}},
+        {"P5", 104, pane(7, 8, 8, 9), {.count = 1, .visits = 1, .sum = 3, .worst = 3}},
         {"P10", 104, enter(7, 8, 10, 100), {.number = 7}},
         {"P10", 104, enter(7, 8, 9, 3), {.number = 8}},
         {"P10", 104, enter(7, 8, 9, 4), {.number = 8}},
@@ -49,13 +49,18 @@ static void try_rows(const struct loan *l) {
         {"P12", WORDS, opening(2), {.live = 0}},
         {"P12", WORDS, enter(3, 4, 5, 40), {.live = 1}},
         {"P12", WORDS, enter(3, 4, 6, 30), {.live = 2}},
-        {"P12", WORDS, pane(3, 3, 4, 4), {.count = 2, .visits = 2, .sum = 70, .worst = 40}},
+        {"P12", WORDS, pane(3, 4, 4, 5), {.count = 2, .visits = 2, .sum = 70, .worst = 40}},
         {"edge", WORDS, opening(40), {.live = 0}},
         {"edge", WORDS, enter(999999, 999999, UINT32_MAX, 1), {.live = 1}},
         {"edge", WORDS, enter(1000000, 0, 0, 1), {.number = 5}},
         {"edge", WORDS, enter(0, 1000000, 0, 1), {.number = 5}},
         {"edge", WORDS, pane(999999, UINT32_MAX, 999999, UINT32_MAX), {.count = 1, .visits = 1, .sum = 1, .worst = 1}},
+        {"edge", WORDS, pane(999999, 1000000, 999999, 1000000), {.count = 1, .visits = 1, .sum = 1, .worst = 1}},
+        {"edge", WORDS, pane(0, 999999, 0, UINT32_MAX), {.count = 0, .visits = 1, .sum = 0, .worst = 0}},
+        {"edge", WORDS, pane(0, UINT32_MAX, 0, 999999), {.count = 0, .visits = 1, .sum = 0, .worst = 0}},
         {"edge", WORDS, pane(1000000, UINT32_MAX, 0, UINT32_MAX), {.count = 0, .visits = 1, .sum = 0, .worst = 0}},
+        {"edge", WORDS, pane(UINT32_MAX, UINT32_MAX, UINT32_MAX, UINT32_MAX), {.count = 0, .visits = 1, .sum = 0, .worst = 0}},
+        {"edge", WORDS, pane(UINT32_MAX, UINT32_MAX - 1, 0, 0), {.number = 6}},
         {"check", WORDS, examining(), {.live = 1}},
         {"P8", WORDS, opening(40), {.live = 0}},
         {"P8", WORDS, enter(1, 0, 0, 1), {.live = 1, .rebuilt = 0}},
@@ -79,18 +84,18 @@ static void try_grades(const struct loan *l) {
     const struct row after[] = {
         {"another grade", 104, enter(1, 2, 3, 51), {.number = 8}},
         {"another grade", 104, enter(1, 2, 3, 100), {.number = 8}},
-        {"kept", 104, pane(1, 1, 2, 2), {.count = 1, .visits = 1, .sum = 50, .worst = 50}},
-        {"off", 104, pane(1, 1, 3, 3), {.count = 0, .visits = 1, .sum = 0, .worst = 0}},
+        {"kept", 104, pane(1, 2, 2, 3), {.count = 1, .visits = 1, .sum = 50, .worst = 50}},
+        {"off", 104, pane(1, 2, 3, 4), {.count = 0, .visits = 1, .sum = 0, .worst = 0}},
         {"crossed", 104, pane(1, 0, 0, 0), {.number = 6}},
-        {"short", 103, pane(1, 1, 2, 2), {.number = 3}},
+        {"short", 103, pane(1, 2, 2, 3), {.number = 3}},
         {"short", 103, enter(1, 2, 4, 1), {.number = 3}},
         {"short", 103, wash(1, 2, 3), {.number = 3}},
-        {"short", 103, listing((struct box){1, 1, 2, 2}), {.number = 3}},
+        {"short", 103, listing((struct box){1, 2, 2, 3}), {.number = 3}},
         {"short", 103, examining(), {.number = 3}},
         {"sound", 104, examining(), {.live = 1}},
         {"any grade", 104, striking((struct mark){1, 2, 3, 77}), {.live = 0}},
         {"greatest", 104, enter(1, 2, 3, 100), {.live = 1}},
-        {"greatest", 104, pane(1, 1, 2, 2), {.count = 1, .visits = 1, .sum = 100, .worst = 100}},
+        {"greatest", 104, pane(1, 2, 2, 3), {.count = 1, .visits = 1, .sum = 100, .worst = 100}},
     };
     TRY_ALL(l, full);
     for (size_t i = 0; i < sizeof outside / sizeof *outside; i++) {
@@ -106,7 +111,29 @@ static void try_grades(const struct loan *l) {
     TRY_ALL(l, after);
 }
 
-/* The sample as R-1 restates it. Where `sheet` prints R,11 no call is made. */
+/* R-2 on the sample's three marks: a mark on the low end of a side is in the box, one on the high end is not; a box without a side is accepted and empty, and its
+   visits are those of the written search. */
+static void try_sides(const struct loan *l) {
+    const struct row rows[] = {
+        {"low end of both", WORDS, pane(20, 30, 5, 20), {.count = 1, .visits = 5, .sum = 7, .worst = 7}},
+        {"high end of x", WORDS, pane(10, 20, 0, 31), {.count = 1, .visits = 3, .sum = 5, .worst = 5}},
+        {"high end of y", WORDS, pane(0, 31, 5, 10), {.count = 1, .visits = 4, .sum = 7, .worst = 7}},
+        {"both ends of y", WORDS, pane(0, 31, 10, 20), {.count = 1, .visits = 6, .sum = 5, .worst = 5}},
+        {"both ends of x", WORDS, pane(10, 30, 0, UINT32_MAX), {.count = 2, .visits = 5, .sum = 12, .worst = 7}},
+        {"empty, at the least", WORDS, pane(10, 10, 0, 31), {.count = 0, .visits = 1, .sum = 0, .worst = 0}},
+        {"empty, between", WORDS, pane(15, 15, 0, 31), {.count = 0, .visits = 3, .sum = 0, .worst = 0}},
+        {"empty, at the second", WORDS, pane(20, 20, 0, 31), {.count = 0, .visits = 3, .sum = 0, .worst = 0}},
+        {"empty, at the greatest", WORDS, pane(30, 30, 0, 31), {.count = 0, .visits = 5, .sum = 0, .worst = 0}},
+        {"empty, past all", WORDS, pane(31, 31, 0, 31), {.count = 0, .visits = 1, .sum = 0, .worst = 0}},
+        {"empty along y", WORDS, pane(0, 31, 7, 7), {.count = 0, .visits = 4, .sum = 0, .worst = 0}},
+        {"empty along both", WORDS, pane(20, 20, 5, 5), {.count = 0, .visits = 3, .sum = 0, .worst = 0}},
+        {"crossed by 1", WORDS, pane(20, 19, 5, 5), {.number = 6}},
+        {"crossed by 1", WORDS, pane(20, 20, 5, 4), {.number = 6}},
+    };
+    TRY_ALL(l, rows);
+}
+
+/* The sample as restate it. Where `sheet` prints R,11 no call is made. */
 static void try_sample(const struct loan *l) {
     static const struct mark listed[] = {{10, 10, 1, 5}, {20, 5, 2, 7}};
     const struct row before[] = {
@@ -114,13 +141,13 @@ static void try_sample(const struct loan *l) {
         {"sample", WORDS, enter(10, 10, 1, 5), {.live = 1}},
         {"sample", WORDS, enter(20, 5, 2, 7), {.live = 2}},
         {"sample", WORDS, enter(30, 20, 3, 100), {.live = 3}},
-        {"P6", WORDS, pane(0, 20, 0, 10), {.count = 2, .visits = 5, .sum = 12, .worst = 7}},
-        {"P7", WORDS, pane(0, 30, 0, 10), {.count = 2, .visits = 6, .sum = 12, .worst = 7}},
-        {"sample", WORDS, listing((struct box){0, 30, 0, 10}), {.count = 2, .visits = 6, .which = 2}},
+        {"P6", WORDS, pane(0, 21, 0, 11), {.count = 2, .visits = 5, .sum = 12, .worst = 7}},
+        {"P7", WORDS, pane(0, 31, 0, 11), {.count = 2, .visits = 6, .sum = 12, .worst = 7}},
+        {"sample", WORDS, listing((struct box){0, 31, 0, 11}), {.count = 2, .visits = 6, .which = 2}},
     };
     const struct row after[] = {
         {"sample", WORDS, wash(10, 10, 1), {.live = 2}},
-        {"sample", WORDS, pane(0, 30, 0, 30), {.count = 2, .visits = 2, .sum = 107, .worst = 100}},
+        {"sample", WORDS, pane(0, 31, 0, 31), {.count = 2, .visits = 2, .sum = 107, .worst = 100}},
         {"sample", WORDS, wash(10, 10, 1), {.number = 9}},
         {"sample", WORDS, enter(1000000, 0, 1, 101), {.number = 5}},
         {"sample", WORDS, enter(40, 0, 1, 101), {.number = 12}},
@@ -129,12 +156,13 @@ static void try_sample(const struct loan *l) {
     };
     TRY_ALL(l, before);
     CHECK(memcmp(l->lists[1].word, listed, sizeof listed) == 0);
+    try_sides(l);
     TRY_ALL(l, after);
 }
 
 /* Lists of 4k words and of 4k - 1; and a crossed box before lists that are too short. */
 static void try_lists(struct loan *l) {
-    const struct box all = {0, 30, 0, 30}, crossed = {1, 0, 0, 0};
+    const struct box all = {0, 31, 0, 31}, crossed = {1, 0, 0, 0};
     static const size_t lengths[][2] = {{8, 8}, {7, 8}, {8, 7}, {6, 6}, {0, LISTED}, {LISTED, 0}, {0, 0}};
     for (size_t i = 0; i < sizeof lengths / sizeof *lengths; i++) {
         memcpy(l->lent, lengths[i], sizeof l->lent);
@@ -143,6 +171,7 @@ static void try_lists(struct loan *l) {
         try_row(l, &(struct row){"lists", WORDS, listing(all), suffice ? listed : refused});
         try_row(l, &(struct row){"crossed", WORDS, listing(crossed), {.number = 6}});
     }
+    try_row(l, &(struct row){"empty", WORDS, listing((struct box){20, 20, 5, 5}), {.count = 0, .visits = 1, .which = 1}});
     try_row(l, &(struct row){"no mark", WORDS, listing((struct box){0, 1, 0, 1}), {.count = 0, .visits = 1, .which = 1}});
 }
 

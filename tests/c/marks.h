@@ -46,9 +46,12 @@ static inline int is_outside(struct mark m) { return m.x > LARGEST_COORDINATE ||
 
 static inline int is_grade_outside(struct mark m) { return m.grade < 1 || m.grade > LARGEST_GRADE; }
 
-static inline int holds_mark(struct box b, struct mark m) { return b.x1 <= m.x && m.x <= b.x2 && b.y1 <= m.y && m.y <= b.y2; }
+/* A side has its low end and not its high one. */
+static inline int holds_mark(struct box b, struct mark m) { return b.x1 <= m.x && m.x < b.x2 && b.y1 <= m.y && m.y < b.y2; }
 
 static inline int is_crossed(struct box b) { return b.x1 > b.x2 || b.y1 > b.y2; }
+
+static inline int is_empty(struct box b) { return b.x1 == b.x2 || b.y1 == b.y2; }
 
 /* Puts those of n marks that a box holds into `held`, in their order, and tells how many: the simple scan. */
 static inline uint32_t scan(const struct mark *marks, uint32_t n, struct box b, struct mark *held) {

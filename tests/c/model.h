@@ -143,9 +143,9 @@ static struct found search(const struct node *t, struct box b, int walks) {
     if (is_leaf(t)) return holds_mark(b, t->least) ? (struct found){1, 1, t->grades} : visit;
     int x = t->axis == ALONG_X;
     uint32_t low = x ? t->least.x : t->least.y, high = x ? t->greatest.x : t->greatest.y, from = x ? b.x1 : b.y1, to = x ? b.x2 : b.y2;
-    if (from <= low && high <= to)
+    if (from <= low && high < to)
         return x ? both(visit, search(t->auxiliary, b, walks)) : (struct found){t->weight, walks ? 2 * t->weight - 1 : 1, t->grades};
-    if (high < from || to < low) return visit;
+    if (high < from || to <= low) return visit;
     return both(visit, both(search(t->left, b, walks), search(t->right, b, walks)));
 }
 

@@ -26,6 +26,7 @@ struct run {
 
 static unsigned long numbers[KINDS][LARGEST_NUMBER + 1], rebuilds;
 static unsigned long fallen;    /* how often the worst grade of a box fell with a strike */
+static unsigned long empty_boxes, opened_empty, on_high_ends;    /* boxes without a side; such that the search went on into; boxes with a mark just past a side */
 
 /* Where a mark stands in the plain list, or would. */
 static uint32_t place_of(const struct run *r, struct mark m) {
@@ -35,6 +36,14 @@ static uint32_t place_of(const struct run *r, struct mark m) {
         if (below(ALONG_X, r->plain[mid], m)) from = mid + 1; else to = mid;
     }
     return from;
+}
+
+/* What the searched boxes were: that the ends were met. */
+static void tell_box(const struct run *r, struct box b, uint32_t visits) {
+    struct box closed = {b.x1, b.x2 + (b.x2 < UINT32_MAX), b.y1, b.y2 + (b.y2 < UINT32_MAX)};
+    empty_boxes += (unsigned)is_empty(b);
+    opened_empty += is_empty(b) && visits > 1;
+    on_high_ends += scan(r->plain, r->live, closed, r->held) > scan(r->plain, r->live, b, r->held);
 }
 
 /* The steps of document 01, "The history". */
@@ -70,9 +79,10 @@ static struct answer strike_step(struct run *r, struct mark m) {
 
 static struct answer search_step(struct run *r, struct box b, int lists) {
     if (is_crossed(b)) return (struct answer){.number = REGISTER_BOX_CROSSED};
+    struct found f = search(r->tree, b, lists);
+    tell_box(r, b, f.visits);
     uint32_t k = scan(r->plain, r->live, b, r->held);
     struct grades g = all_grades(r->held, k);
-    struct found f = search(r->tree, b, lists);
     COMPARE(f.count == k && same_grades(f.grades, g));
     if (!lists) return (struct answer){.count = k, .visits = f.visits, .sum = g.sum, .worst = g.worst};
     if (r->loan.lent[0] < list_words(k) || r->loan.lent[1] < list_words(k)) return (struct answer){.number = REGISTER_SHORT_LIST, .count = k};
@@ -148,8 +158,10 @@ static struct box any_box(const struct run *r) {
     struct mark m = r->live > 0 ? r->plain[draw(r->live)] : (struct mark){0};
     if (one_in(6)) b.x1 = 0, b.x2 = UINT32_MAX;
     if (one_in(6)) b.y1 = 0, b.y2 = UINT32_MAX;
-    if (one_in(12)) b.x1 = b.x2 = m.x;
-    if (one_in(12)) b.y1 = b.y2 = m.y;
+    if (one_in(8)) b.x1 = m.x, b.x2 = m.x + draw(2);    /* empty, or of one coordinate */
+    if (one_in(8)) b.y1 = m.y, b.y2 = m.y + draw(2);
+    if (one_in(12)) b.x2 = m.x;
+    if (one_in(12)) b.y2 = m.y;
     if (one_in(20)) b.x2 = UINT32_MAX;
     if (one_in(12)) return b;    /* it may be crossed */
     order(&b.x1, &b.x2);
@@ -294,6 +306,7 @@ static void check_numbers(void) {
             CHECK(comes ? numbers[kind][n] > 100 : numbers[kind][n] == 0);
         }
     CHECK(rebuilds > 1000 && fallen > 1000);
+    CHECK(empty_boxes > 10000 && opened_empty > 1000 && on_high_ends > 10000);
 }
 
 int main(void) {

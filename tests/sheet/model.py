@@ -91,7 +91,7 @@ def struck(axis, tree, mark):
 
 def held(box, mark):
     x1, x2, y1, y2 = box
-    return x1 <= mark[0] <= x2 and y1 <= mark[1] <= y2
+    return x1 <= mark[0] < x2 and y1 <= mark[1] < y2
 
 
 def visits(axis, tree, box, lists):
@@ -100,11 +100,11 @@ def visits(axis, tree, box, lists):
         return 1
     low, high = tree.marks[0][axis], tree.marks[-1][axis]
     start, end = box[2 * axis], box[2 * axis + 1]
-    if start <= low and high <= end:
+    if start <= low and high < end:
         if axis == X:
             return 1 + visits(Y, tree.auxiliary, box, lists)
         return 2 * len(tree.marks) - 1 if lists else 1
-    if high < start or end < low:
+    if high < start or end <= low:
         return 1
     return 1 + visits(axis, tree.left, box, lists) + visits(axis, tree.right, box, lists)
 

@@ -155,7 +155,7 @@ impl Mark {
     }
 }
 
-// A pane: both sides with their ends.
+// A pane: both sides with their low ends and without their high ones, so that panes that share a cut share no mark (R-2).
 pub struct Box {
     pub x1: u32,
     pub x2: u32,
@@ -189,11 +189,11 @@ impl Box {
         v < self.x1
     }
 
-    // A coordinate lies past that side.
+    // A coordinate lies past that side, or on its high end.
     pub fn past_x(self, v: u32) -> bool
         ensures { λ r. ⌜ r ≡ not (alongX .toHigh (boxValue self) v) ⌝ }
     {
-        self.x2 < v
+        self.x2 <= v
     }
 
     pub fn before_y(self, v: u32) -> bool
@@ -205,7 +205,7 @@ impl Box {
     pub fn past_y(self, v: u32) -> bool
         ensures { λ r. ⌜ r ≡ not (alongY .toHigh (boxValue self) v) ⌝ }
     {
-        self.y2 < v
+        self.y2 <= v
     }
 
     pub fn holds(self, m: Mark) -> bool

@@ -16,5 +16,6 @@ pub mod Fold
 pub mod TwoFold
 pub mod ThreeFold
 pub mod History
+pub mod Cuts
 pub mod Slots
 pub mod Cases

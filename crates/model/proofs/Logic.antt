@@ -4,7 +4,7 @@ use mathlib.Core.Path.{_≡_, refl, sym, _∙_}
 use mathlib.Core.Bool.{Bool, true, false, not, _&&_, _||_, true≢false}
 use native.Mathlib.Omega.{arith}
 use lib.Dec.{ltb, leb, eqb}
-use borrow.Author.Tests.{ltb-true, ltb-false, eqb-true, eqb-false, leb-true, leb-false, lt-ltb, le-ltb}
+use borrow.Author.Tests.{ltb-true, ltb-false, eqb-true, eqb-false, leb-true, leb-false, lt-ltb, le-ltb, lt-leb, le-leb}
 use Rattle.model.specs.Lists.{if_then_else_}
 
 -- by cases on a test, with the test's value in hand
@@ -59,3 +59,9 @@ not-leb a b =
     by-cases (leb a b)
     (λ t. rw (t, le-ltb b a (leb-true a b t)))
     (λ f. rw (f, lt-ltb b a (leb-false a b f)))
+
+pub not-ltb : (a b : ℕ) → not (ltb a b) ≡ leb b a
+not-ltb a b =
+    by-cases (ltb a b)
+    (λ t. rw (t, lt-leb b a (ltb-true a b t)))
+    (λ f. rw (f, le-leb b a (ltb-false a b f)))

@@ -1,16 +1,16 @@
 -- The orders by keys are strict and total, and the sheet's two axes keep the laws of an axis. Assumes nothing.
 use Prim.Native.Nat.{ℕ, _≤_, _<_}
 use mathlib.Core.Path.{_≡_, refl, sym, ap₂, _∙_, fun-ext}
-use mathlib.Core.Bool.{Bool, true, false, _&&_}
+use mathlib.Core.Bool.{Bool, true, false, _&&_, _||_}
 use mathlib.Core.List.{List, [], _∷_}
 use native.Mathlib.Omega.{arith}
 use lib.Dec.{eqb, ltb, leb}
-use borrow.Author.Tests.{eqb-true, eq-eqb, ne-eqb, lt-ltb, le-ltb, ltb-false, leb-true, leb-false, le-leb}
-use Rattle.model.specs.Axis.{Space, onSide, lexicographic, equalOn}
+use borrow.Author.Tests.{eqb-true, eq-eqb, ne-eqb, lt-ltb, le-ltb, ltb-true, ltb-false, leb-true, leb-false, le-leb}
+use Rattle.model.specs.Axis.{Space, onSide, cellInside, cellClear, lexicographic, equalOn}
 use Rattle.model.specs.Sheet.{Mark, Box, markOutside, boxCrossed, byXYTag, belowX, belowY, same, fromX1, toX2, fromY1, toY2, holds, sheet}
 use Rattle.model.specs.Sheet.{alongX, alongY}
 use Rattle.model.specs.Laws.{SamenessLaws, AxisLaws, Straight}
-use Rattle.model.proofs.Logic.{by-cases, by-order, clash, and-left, and-right, or-neither}
+use Rattle.model.proofs.Logic.{by-cases, by-order, clash, and-left, and-right, or-neither, not-leb, not-ltb}
 
 -- how one key decides
 module _ {M : Type 0} (k : M → ℕ) (ks : List (M → ℕ)) (a b : M) where
@@ -113,12 +113,12 @@ module _ {M B : Type 0} (S : Space M B) (k : M → ℕ) (ks : List (M → ℕ)) 
     held = held;
   }
 
--- the ends of a closed side
+-- the ends of a side that has its low end and not its high one
 pub leb-rises : (n v w : ℕ) → v ≤ w → leb n v ≡ true → leb n w ≡ true
 leb-rises n v w h e = le-leb n w (omega (arith, leb-true n v e))
 
-pub leb-falls : (n v w : ℕ) → v ≤ w → leb w n ≡ true → leb v n ≡ true
-leb-falls n v w h e = le-leb v n (omega (arith, leb-true w n e))
+pub ltb-falls : (n v w : ℕ) → v ≤ w → ltb w n ≡ true → ltb v n ≡ true
+ltb-falls n v w h e = lt-ltb v n (omega (arith, ltb-true w n e))
 
 -- the sheet's
 pub sheet-sameness : SamenessLaws sheet
@@ -148,7 +148,7 @@ unfolding same belowX holds fromX1 toX2
 alongX-laws =
     lexicographic-laws sheet (λ m. m .x) ((λ m. m .y) ∷ (λ m. m .tag) ∷ []) fromX1 toX2 (equalOn-agree byXYTag) (agree-equalOn byXYTag)
     (λ b. leb-rises (b .x1))
-    (λ b. leb-falls (b .x2))
+    (λ b. ltb-falls (b .x2))
     (λ b m. and-left (onSide alongX b (m .x)) (onSide alongY b (m .y)))
 
 pub alongY-laws : AxisLaws sheet alongY
@@ -158,17 +158,36 @@ alongY-laws =
     (λ a b e. let g = equalOn-agree byXYTag a b e in (g .1 .0, (g .0, g .1 .1)))
     (λ a b g. agree-equalOn byXYTag a b (g .1 .0, (g .0, g .1 .1)))
     (λ b. leb-rises (b .y1))
-    (λ b. leb-falls (b .y2))
+    (λ b. ltb-falls (b .y2))
     (λ b m. and-right (onSide alongX b (m .x)) (onSide alongY b (m .y)))
 
--- the sides of a box that is not crossed
-leb-straight : (low high v : ℕ) → ltb high low ≡ false → leb low v ≡ false → leb v high ≡ true
-leb-straight low high v e h = le-leb v high (omega (arith, ltb-false high low e, leb-false low v h))
+-- the sides of a box that is not crossed, also where they are empty
+side-straight : (low high v : ℕ) → ltb high low ≡ false → leb low v ≡ false → ltb v high ≡ true
+side-straight low high v e h = lt-ltb v high (omega (arith, ltb-false high low e, leb-false low v h))
 
 pub alongX-straight : (b : Box) → boxCrossed b ≡ false → Straight alongX b
 unfolding boxCrossed fromX1 toX2
-alongX-straight b e v = leb-straight (b .x1) (b .x2) v (or-neither (ltb (b .x2) (b .x1)) (ltb (b .y2) (b .y1)) e .0)
+alongX-straight b e v = side-straight (b .x1) (b .x2) v (or-neither (ltb (b .x2) (b .x1)) (ltb (b .y2) (b .y1)) e .0)
 
 pub alongY-straight : (b : Box) → boxCrossed b ≡ false → Straight alongY b
 unfolding boxCrossed fromY1 toY2
-alongY-straight b e v = leb-straight (b .y1) (b .y2) v (or-neither (ltb (b .x2) (b .x1)) (ltb (b .y2) (b .y1)) e .1)
+alongY-straight b e v = side-straight (b .y1) (b .y2) v (or-neither (ltb (b .x2) (b .x1)) (ltb (b .y2) (b .y1)) e .1)
+
+-- R-2's words for a cell, "inside when its least value is at least x1 and its greatest is below x2, and clear when its greatest is below x1 or its least is
+-- not below x2, also when x1 = x2; y likewise"
+module _ (b : Box) (least greatest : ℕ) where
+  pub inside-alongX : cellInside alongX b least greatest ≡ (leb (b .x1) least && ltb greatest (b .x2))
+  unfolding fromX1 toX2
+  inside-alongX = refl
+
+  pub clear-alongX : cellClear alongX b least greatest ≡ (ltb greatest (b .x1) || leb (b .x2) least)
+  unfolding fromX1 toX2
+  clear-alongX = rw (not-leb (b .x1) greatest, not-ltb least (b .x2))
+
+  pub inside-alongY : cellInside alongY b least greatest ≡ (leb (b .y1) least && ltb greatest (b .y2))
+  unfolding fromY1 toY2
+  inside-alongY = refl
+
+  pub clear-alongY : cellClear alongY b least greatest ≡ (ltb greatest (b .y1) || leb (b .y2) least)
+  unfolding fromY1 toY2
+  clear-alongY = rw (not-leb (b .y1) greatest, not-ltb least (b .y2))

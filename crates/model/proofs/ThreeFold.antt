@@ -5,7 +5,7 @@ use mathlib.Core.Bool.{Bool, true, _&&_}
 use mathlib.Core.List.{List, [], _∷_}
 use mathlib.Core.Option.{Option}
 use native.Mathlib.Omega.{arith}
-use lib.Dec.{leb}
+use lib.Dec.{leb, ltb}
 use Rattle.model.specs.Axis.{Space, Axis, onSide, lexicographic, equalOn}
 use Rattle.model.specs.Register.{Register, innermost}
 use Rattle.model.specs.Tree.{Tree}
@@ -13,7 +13,7 @@ use Rattle.model.specs.Fold.{fold}
 use Rattle.model.specs.Sizes.{D}
 use Rattle.model.specs.Laws.{SamenessLaws, AxisLaws, RegisterLaws}
 use Rattle.model.proofs.Logic.{and-left, and-right}
-use Rattle.model.proofs.Orders.{equalOn-agree, agree-equalOn, equalOn-laws, lexicographic-laws, leb-rises, leb-falls}
+use Rattle.model.proofs.Orders.{equalOn-agree, agree-equalOn, equalOn-laws, lexicographic-laws, leb-rises, ltb-falls}
 use Rattle.model.proofs.Fold.{settledWith, foldBound, innermost-laws, fold-laws}
 
 record Mark : Type 0 where
@@ -30,9 +30,9 @@ record Box : Type 0 where
   z1 : ℕ
   z2 : ℕ
 
--- an axis by keys, its first the coordinate, and a closed side of the box
+-- an axis by keys, its first the coordinate, and a side of the box: "z1 ≤ z < z2" (R-13)
 abbrev along : (Mark → ℕ) → List (Mark → ℕ) → (Box → ℕ) → (Box → ℕ) → Axis Mark Box
-along k ks low high = record { below = lexicographic (k ∷ ks); at = k; fromLow = λ b v. leb (low b) v; toHigh = λ b v. leb v (high b) }
+along k ks low high = record { below = lexicographic (k ∷ ks); at = k; fromLow = λ b v. leb (low b) v; toHigh = λ b v. ltb v (high b) }
 
 abbrev alongZ : Axis Mark Box
 alongZ = along (λ m. m .z) ((λ m. m .x) ∷ (λ m. m .y) ∷ (λ m. m .tag) ∷ []) (λ b. b .z1) (λ b. b .z2)
@@ -67,7 +67,7 @@ alongZ-laws =
     (equalOn-agree byZXYTag)
     (agree-equalOn byZXYTag)
     (λ b. leb-rises (b .z1))
-    (λ b. leb-falls (b .z2))
+    (λ b. ltb-falls (b .z2))
     (λ b m e. and-left (onSide alongZ b (m .z)) (onSide alongX b (m .x))
     (and-left (onSide alongZ b (m .z) && onSide alongX b (m .x)) (onSide alongY b (m .y)) e))
 
@@ -77,7 +77,7 @@ alongX-laws =
     (λ a b e. let g = equalOn-agree byZXYTag a b e in (g .1 .0, (g .1 .1 .0, (g .1 .1 .1 .0, (g .0, tt)))))
     (λ a b g. agree-equalOn byZXYTag a b (g .1 .1 .1 .0, (g .0, (g .1 .0, (g .1 .1 .0, tt)))))
     (λ b. leb-rises (b .x1))
-    (λ b. leb-falls (b .x2))
+    (λ b. ltb-falls (b .x2))
     (λ b m e. and-right (onSide alongZ b (m .z)) (onSide alongX b (m .x))
     (and-left (onSide alongZ b (m .z) && onSide alongX b (m .x)) (onSide alongY b (m .y)) e))
 
@@ -87,7 +87,7 @@ alongY-laws =
     (λ a b e. let g = equalOn-agree byZXYTag a b e in (g .1 .1 .0, (g .1 .0, (g .1 .1 .1 .0, (g .0, tt)))))
     (λ a b g. agree-equalOn byZXYTag a b (g .1 .1 .1 .0, (g .1 .0, (g .0, (g .1 .1 .0, tt)))))
     (λ b. leb-rises (b .y1))
-    (λ b. leb-falls (b .y2))
+    (λ b. ltb-falls (b .y2))
     (λ b m e. and-right (onSide alongZ b (m .z) && onSide alongX b (m .x)) (onSide alongY b (m .y)) e)
 
 abbrev unsettled : Box → Mark → Bool

@@ -11,5 +11,6 @@ pub mod Sizes
 pub mod Sheet
 pub mod Refusals
 pub mod History
+pub mod Cuts
 pub mod Laws
 pub mod Slots

@@ -48,7 +48,7 @@ summing = record { of = λ m. m .grade; join = _+_ }
 abbrev pub worst : Operation Mark
 worst = record { of = λ m. m .grade; join = max }
 
--- "any words with x1 ≤ x2 and y1 ≤ y2": a box whose sides are the wrong way round
+-- "any words with x1 ≤ x2 and y1 ≤ y2": a box whose sides are the wrong way round. "A box with x1 = x2 is empty and accepted" (R-2).
 unfoldable pub boxCrossed : Box → Bool
 boxCrossed b = ltb (b .x2) (b .x1) || ltb (b .y2) (b .y1)
 
@@ -69,18 +69,18 @@ belowY = lexicographic byYXTag
 unfoldable pub same : Mark → Mark → Bool
 same = equalOn byXYTag
 
--- "It holds a mark when x1 ≤ x ≤ x2 and y1 ≤ y ≤ y2.", end by end
+-- "a box now holds x1 ≤ x < x2 and y1 ≤ y < y2" (R-2), end by end
 unfoldable pub fromX1 : Box → ℕ → Bool
 fromX1 b v = leb (b .x1) v
 
 unfoldable pub toX2 : Box → ℕ → Bool
-toX2 b v = leb v (b .x2)
+toX2 b v = ltb v (b .x2)
 
 unfoldable pub fromY1 : Box → ℕ → Bool
 fromY1 b v = leb (b .y1) v
 
 unfoldable pub toY2 : Box → ℕ → Bool
-toY2 b v = leb v (b .y2)
+toY2 b v = ltb v (b .y2)
 
 unfoldable pub holds : Box → Mark → Bool
 holds b m = (fromX1 b (m .x) && toX2 b (m .x)) && (fromY1 b (m .y) && toY2 b (m .y))

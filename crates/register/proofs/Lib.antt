@@ -8,3 +8,4 @@ pub mod Reading
 pub mod Listing
 pub mod Stands
 pub mod History
+pub mod Cuts
