@@ -1,5 +1,5 @@
 -- Panes that share a cut (R-2). Where a line cuts a box in two, what the whole comes to under any operation with laws is what both parts come to: along x and
--- along y by one law, for a plain list and for the answers of the history. And a box without a side is accepted and empty. Assumes nothing.
+-- along y by one law, for a plain list and for the answers of the history; so panes laid edge to edge come to the whole. And a box without a side is accepted and empty. Assumes nothing.
 use Prim.Native.Nat.{ℕ, _+_, _≤_}
 use mathlib.Core.Path.{_≡_, refl, sym, ap, ap₂, _∙_}
 use mathlib.Core.Logic.{_⊎_, inl, inr}
@@ -9,17 +9,17 @@ use native.Mathlib.Omega.{arith}
 use lib.Dec.{ltb, leb}
 use borrow.Author.Tests.{lt-ltb, le-ltb, leb-true, leb-false, le-leb}
 use Rattle.model.specs.Lists.{countIf}
-use Rattle.model.specs.Totals.{Operation, figureIf, totalIf, counting}
+use Rattle.model.specs.Totals.{Operation, total, figureIf, totalIf, counting}
 use Rattle.model.specs.Axis.{onSide}
 use Rattle.model.specs.Sheet.{Mark, Box, box, boxCrossed, fromX1, toX2, fromY1, toY2, holds, summing, worst, alongX, alongY, main}
 use Rattle.model.specs.Sizes.{passes, risePasses}
 use Rattle.model.specs.Refusals.{enterBox}
 use Rattle.model.specs.History.{count, list, State, counted, listedIn, answer}
 use Rattle.model.specs.Laws.{OperationLaws, All, nil, cons}
-use Rattle.model.specs.Cuts.{Cut, acrossX, acrossY, AddsUp}
+use Rattle.model.specs.Cuts.{Cut, acrossX, acrossY, Panes, uncut, cut, AddsUp}
 use Rattle.model.proofs.Logic.{by-cases}
 use Rattle.model.proofs.Lists.{countIf-none, filterBy-none}
-use Rattle.model.proofs.Totals.{counting-laws, total-count, join-zero, totalIf-none}
+use Rattle.model.proofs.Totals.{counting-laws, total-count, join-zero, total-append, totalIf-none}
 use Rattle.model.proofs.TwoFold.{summing-laws, worst-laws}
 
 -- what passes a test passes exactly one of two others, and what does not passes neither
@@ -117,6 +117,25 @@ module _ {b near far : Box} (c : Cut b near far) where
         sum = cut-total summing summing-laws (s .plain);
         worst = cut-total worst worst-laws (s .plain);
       }))
+
+-- a figure that is joined at every cut is that of the panes, joined: whatever cuts were made, and however often
+module _ {M : Type 0} (P : Operation M) (L : OperationLaws P) (figure : Box → ℕ)
+    (joins : (b near far : Box) → Cut b near far → figure b ≡ P .join (figure near) (figure far)) where
+  abbrev ofBoxes : Operation Box
+  ofBoxes = record { of = figure; join = P .join }
+
+  boxes-laws : OperationLaws ofBoxes
+  boxes-laws = record { assoc = L .assoc; comm = L .comm; neutral = L .neutral }
+
+  pub panes-join : {b : Box} {ps : List Box} → Panes b ps → figure b ≡ total (P .join) figure ps
+  panes-join {b} uncut = sym (join-zero P L (figure b))
+  panes-join {b} (cut {near = near} {far = far} {ps = ps} {qs = qs} c ofNear ofFar) =
+      joins b near far c ∙ ap₂ (P .join) (panes-join ofNear) (panes-join ofFar) ∙ sym (total-append ofBoxes boxes-laws figure ps qs)
+
+-- THE PANES, of a plain list and for any operation with laws
+pub panes-total : {b : Box} {ps : List Box} → Panes b ps → (P : Operation Mark) → OperationLaws P → (l : List Mark)
+    → totalIf P (holds b) l ≡ total (P .join) (λ p. totalIf P (holds p) l) ps
+panes-total s P L l = panes-join P L (λ p. totalIf P (holds p) l) (λ b near far c. cut-total c P L l) s
 
 -- "A box with x1 = x2 is empty and accepted", and so is one with y1 = y2: it holds no mark, and gives 0 beside the visits of the written search
 side-empty : (lo hi v : ℕ) → lo ≡ hi → (leb lo v && ltb v hi) ≡ false

@@ -1,6 +1,7 @@
 -- Panes that share a cut (request R-2): a box cut in two by a line, and when what three counts give adds up. Assumes nothing.
 use Prim.Native.Nat.{ℕ, _+_, max, _≤_}
 use mathlib.Core.Path.{_≡_}
+use mathlib.Core.List.{List, [], _∷_, _++_}
 use Rattle.model.specs.Sheet.{Box, box}
 use Rattle.model.specs.History.{Answer}
 
@@ -9,6 +10,11 @@ use Rattle.model.specs.History.{Answer}
 pub data Cut (b : Box) : Box → Box → Type 0 where
   acrossX : (c : ℕ) → b .x1 ≤ c → c ≤ b .x2 → Cut b (box (b .x1) c (b .y1) (b .y2)) (box c (b .x2) (b .y1) (b .y2))
   acrossY : (c : ℕ) → b .y1 ≤ c → c ≤ b .y2 → Cut b (box (b .x1) (b .x2) (b .y1) c) (box (b .x1) (b .x2) c (b .y2))
+
+-- "Planners lay panes edge to edge": the panes of a box that is cut, and whose parts may be cut again, each along x or along y
+pub data Panes : Box → List Box → Type 0 where
+  uncut : {b : Box} → Panes b (b ∷ [])
+  cut : {b near far : Box} {ps qs : List Box} → Cut b near far → Panes near ps → Panes far qs → Panes b (ps ++ qs)
 
 -- "count and sum of the whole are the totals of both parts", and the worst is the greater; the parts are accepted exactly where the whole is, and refused by
 -- its number
