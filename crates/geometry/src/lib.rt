@@ -208,6 +208,7 @@ impl Box {
         self.y2 <= v
     }
 
+    // A place is a cell of one coordinate along each axis.
     pub fn holds(self, m: Mark) -> bool
         ensures { λ r. ⌜ r ≡ holds (boxValue self) (markValue m) ⌝ }
     {

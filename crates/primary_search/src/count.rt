@@ -35,8 +35,8 @@ fn leaf(t: &[u32], b: Box, s: u32, tally: Figures) -> Figures
 
 // The arrival at the inner node named s, which hands over to its auxiliary tree: here it is told once that the words have the whole level, whose records are
 // those from base to end. They are lent by themselves, so that the walk adds no base to a place; `end` is given and not the capacity, so that their length is
-// what a place is held against. The tree is searched by y alone: the ends of the side are handed on as numbers, which stay in registers, where a Box would be
-// copied to memory for each walk. (The tally is a number too, here and back: this is the one real call of a count, and Figures would go through memory.)
+// what a place is held against. The tree is searched by y alone: the ends of that side are handed on as numbers, in registers, where a Box would go through
+// memory; the side along x of the one made here is empty, and nothing asks it. (The tally is a number too: this is the one real call of a count.)
 fn hand_over(t: &[u32], base: u32, end: usize, y1: u32, y2: u32, s: u32, tally: u64) -> u64
     requires { ⌜ (auxiliaryPlace s + armWidth ≤ length (now t)) × (end ≡ levelEnd base (levelRecords base end)) ⌝ }
     ensures { λ r. ⌜ r ≡ handOver♯ (now (t .entry)) (levelRecords base end) (box 0 0 y1 y2) base s tally ⌝ }
