@@ -8,7 +8,8 @@ pub inside-before : (reached short : Bool) {before : Bool} → before ≡ not re
 inside-before true short e t = clash t e
 inside-before false short e t = refl
 
-pub inside-within : (reached short : Bool) {before past : Bool} → before ≡ not reached → before ≡ false → past ≡ not short → not past ≡ (reached && short)
+pub inside-within : (reached short : Bool) {before past : Bool} → before ≡ not reached → before ≡ false → past ≡ not short
+    → not past ≡ (reached && short)
 inside-within true true e f p = rw p
 inside-within true false e f p = rw p
 inside-within false short e f p = clash e f

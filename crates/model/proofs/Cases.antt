@@ -135,5 +135,6 @@ all-equal [] e = nil
 all-equal (c ∷ l) e = cons (head-eq-of-cons-eq e) (all-equal l (tail-eq-of-cons-eq e))
 
 pub cases-hold : All (λ c. c .actual ≡ c .expected) table
-unfolding table riseD D W capacityOutside risePasses passes markOutside gradeOutside boxCrossed belowX belowY same fromX1 toX2 fromY1 toY2 holds openTable enterMark nameMark enterBox
+unfolding table riseD D W capacityOutside risePasses passes
+    markOutside gradeOutside boxCrossed belowX belowY same fromX1 toX2 fromY1 toY2 holds openTable enterMark nameMark enterBox
 cases-hold = all-equal table refl

@@ -1,5 +1,6 @@
--- Panes that share a cut (R-2). Where a line cuts a box in two, what the whole comes to under any operation with laws is what both parts come to: along x and
--- along y by one law, for a plain list and for the answers of the history; so panes laid edge to edge come to the whole. And a box without a side is accepted and empty. Assumes nothing.
+-- Panes that share a cut (R-2). Where a line cuts a box in two, what the whole comes to under any operation with laws is what both parts come to: along x
+-- and along y by one law, for a plain list and for the answers of the history; so panes laid edge to edge come to the whole. And a box without a side is
+-- accepted and empty. Assumes nothing.
 use Prim.Native.Nat.{ℕ, _+_, _≤_}
 use mathlib.Core.Path.{_≡_, refl, sym, ap, ap₂, _∙_}
 use mathlib.Core.Logic.{_⊎_, inl, inr}

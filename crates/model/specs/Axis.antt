@@ -23,8 +23,8 @@ module _ {M B : Type 0} (A : Axis M B) (b : B) where
   abbrev pub onSide : ℕ → Bool
   onSide v = A .fromLow b v && A .toHigh b v
 
-  -- "A node's cell runs from the least to the greatest x beneath it (y in an auxiliary)" (The search): a cell inside the box's side, and one clear of it. For the
-  -- sheet's sides that is what R-2 says of a cell (proofs/Orders, inside-alongX, clear-alongX and along y).
+  -- "A node's cell runs from the least to the greatest x beneath it (y in an auxiliary)" (The search): a cell inside the box's side, and one clear of it. For
+  -- the sheet's sides that is what R-2 says of a cell (proofs/Orders, inside-alongX, clear-alongX and along y).
   abbrev pub cellInside : ℕ → ℕ → Bool
   cellInside least greatest = A .fromLow b least && A .toHigh b greatest
 

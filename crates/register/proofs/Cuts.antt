@@ -1,6 +1,6 @@
--- Panes that share a cut (R-2), by what the call returns: on a sound table the counts of a box's two parts add up to the count of the box, and so do those of its
--- panes, however it is cut; and an empty box is accepted and gives 0 with the written search's visits. Of the counts nothing is known but that each does what its
--- contract says. Assumes nothing.
+-- Panes that share a cut (R-2), by what the call returns: on a sound table the counts of a box's two parts add up to the count of the box, and so do those
+-- of its panes, however it is cut; and an empty box is accepted and gives 0 with the written search's visits. Of the counts nothing is known but that each
+-- does what its contract says. Assumes nothing.
 use Prim.Native.Nat.{ℕ, _+_, max}
 use mathlib.Core.Path.{_≡_, _∙_}
 use mathlib.Core.Logic.{_⊎_}
