@@ -109,21 +109,32 @@ static void sheet_lines(const struct sheet *s, enum axis axis, uint32_t end, uin
     line[n - 1] = end;
 }
 
+/* Lists a pane, and tells of each mark of the sheet how often it was listed. */
+static void list_pane(const struct sheet *s, struct box pane, uint32_t count, uint32_t *times) {
+    struct answer r = ask(listing(pane), &s->loan);
+    COMPARE(r.number == REGISTER_OK && r.count == count);
+    for (uint32_t i = 0; i < r.count; i++) {
+        struct mark m;
+        memcpy(&m, s->loan.lists[r.which - 1].word + list_words(i), sizeof m);
+        for (uint32_t j = 0; j < s->live; j++) times[j] += (uint32_t)(same_mark(s->marks[j], m) && s->marks[j].grade == m.grade);
+    }
+}
+
 /* The whole sheet in panes edge to edge. */
 static void tile_sheet(const struct sheet *s, uint32_t end) {
-    uint32_t columns[MOST_LINES], rows[MOST_LINES], n = 2 + draw(MOST_LINES - 1), listed = 0;
+    uint32_t columns[MOST_LINES], rows[MOST_LINES], n = 2 + draw(MOST_LINES - 1), times[CAPACITY] = {0};
     struct answer total = {0};
     sheet_lines(s, ALONG_X, end, columns, n);
     sheet_lines(s, ALONG_Y, end, rows, n);
     for (uint32_t i = 0; i + 1 < n; i++)
         for (uint32_t j = 0; j + 1 < n; j++) {
             struct box pane = {columns[i], columns[i + 1], rows[j], rows[j + 1]};
-            struct answer r = counted(s, pane), l = ask(listing(pane), &s->loan);
-            COMPARE(l.number == REGISTER_OK && l.count == r.count);
+            struct answer r = counted(s, pane);
             total = both_parts(total, r);
-            listed += l.count;
+            list_pane(s, pane, r.count, times);
         }
-    COMPARE(adds_up(total, counted(s, (struct box){0, end, 0, end})) && total.count == s->live && listed == s->live);
+    for (uint32_t i = 0; i < s->live; i++) COMPARE(times[i] == 1);
+    COMPARE(adds_up(total, counted(s, (struct box){0, end, 0, end})) && total.count == s->live);
     COMPARE(same_grades((struct grades){total.sum, total.worst}, all_grades(s->marks, s->live)));
 }
 
