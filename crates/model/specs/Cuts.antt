@@ -1,8 +1,9 @@
--- Panes that share a cut (request R-2): a box cut in two by a line, and when what three counts give adds up. Assumes nothing.
+-- Panes that share a cut (request R-2): a box cut in two by a line, a box laid out with panes, and when what three counts give adds up. Assumes nothing.
 use Prim.Native.Nat.{ℕ, _+_, max, _≤_}
 use mathlib.Core.Path.{_≡_}
-use mathlib.Core.List.{List, [], _∷_, _++_}
-use Rattle.model.specs.Sheet.{Box, box}
+use mathlib.Core.List.{List}
+use Rattle.model.specs.Lists.{indicator, countIf}
+use Rattle.model.specs.Sheet.{Mark, Box, box, holds}
 use Rattle.model.specs.History.{Answer}
 
 -- "where a line between two sides of a box, or on one of them, cuts it in two": the box, the part before the line at c, and the part on its far side, to which
@@ -11,10 +12,10 @@ pub data Cut (b : Box) : Box → Box → Type 0 where
   acrossX : (c : ℕ) → b .x1 ≤ c → c ≤ b .x2 → Cut b (box (b .x1) c (b .y1) (b .y2)) (box c (b .x2) (b .y1) (b .y2))
   acrossY : (c : ℕ) → b .y1 ≤ c → c ≤ b .y2 → Cut b (box (b .x1) (b .x2) (b .y1) c) (box (b .x1) (b .x2) c (b .y2))
 
--- "Planners lay panes edge to edge": the panes of a box that is cut, and whose parts may be cut again, each along x or along y
-pub data Panes : Box → List Box → Type 0 where
-  uncut : {b : Box} → Panes b (b ∷ [])
-  cut : {b near far : Box} {ps qs : List Box} → Cut b near far → Panes near ps → Panes far qs → Panes b (ps ++ qs)
+-- "Planners lay panes edge to edge": panes that share no place and leave none of a box out, however they are laid. A place in the box is in exactly one of
+-- them, any other in none.
+abbrev pub Tiles : Box → List Box → Type 0
+Tiles b ps = (m : Mark) → countIf (λ p. holds p m) ps ≡ indicator (holds b m)
 
 -- "count and sum of the whole are the totals of both parts", and the worst is the greater; the parts are accepted exactly where the whole is, and refused by
 -- its number
