@@ -1,4 +1,5 @@
 -- What the crate's values mean: the model's mark, box and keys, and document 01's number for each case of an answer. Assumes nothing.
+use Prim.Native.Nat.{ℕ, _+_, _*_}
 use mathlib.Core.Bool.{Bool}
 use mathlib.Core.List.{[], _∷_}
 use Rattle.model.specs.Axis.{lexicographic}
@@ -27,6 +28,13 @@ keyY m = record { major = m .y; minor = m .x; tag = m .tag }
 
 unfoldable pub keyBelow : Key → Key → Bool
 keyBelow = lexicographic ((λ k. k .major) ∷ (λ k. k .minor) ∷ (λ k. k .tag) ∷ [])
+
+-- "Compare x × 4,294,967,296 + y, a 64-bit number, in its stead, then the tag, and likewise y × 4,294,967,296 + x" (R-5)
+abbrev pub place : Key → ℕ
+place k = k .major * 4294967296 + k .minor
+
+abbrev pub placeBelow : Key → Key → Bool
+placeBelow = lexicographic (place ∷ (λ k. k .tag) ∷ [])
 
 -- "insert, strike: the mark: 5"; "12, grade outside 1 to 100" (R-1)
 abbrev pub markOutcome : NewMark → Outcome Sheet.Mark

@@ -7,6 +7,7 @@ ghost use Rattle.model.specs.Refusals.{enterMark, enterBox};
 ghost use Rattle.geometry.specs.Values.{
   markValue,
   boxValue,
+  place,
   keyBelow,
   keyX,
   keyY,
@@ -37,23 +38,26 @@ struct Key {
 }
 
 impl Key {
-    // For both orders: no other function compares two places.
+    // The place as one number (R-5). The second coordinate is a word, so where the first ones differ they decide.
+    fn place(self) -> u64
+        ensures { λ r. ⌜ r ≡ place self ⌝ }
+    {
+        4294967296 * (self.major as u64) + (self.minor as u64)
+    }
+
+    // For both orders: two places are compared here and in `Mark::same`, by their numbers.
     fn below(self, other: Key) -> bool
         ensures { λ r. ⌜ r ≡ keyBelow self other ⌝ }
     {
-        if self.major < other.major {
+        let here = self.place();
+        let there = other.place();
+        if here < there {
             return true;
         }
-        if other.major < self.major {
-            return false;
+        if here == there {
+            return self.tag < other.tag;
         }
-        if self.minor < other.minor {
-            return true;
-        }
-        if other.minor < self.minor {
-            return false;
-        }
-        self.tag < other.tag
+        false
     }
 }
 
@@ -146,10 +150,8 @@ impl Mark {
     pub fn same(self, other: Mark) -> bool
         ensures { λ r. ⌜ r ≡ same (markValue self) (markValue other) ⌝ }
     {
-        if self.x == other.x {
-            if self.y == other.y {
-                return self.tag == other.tag;
-            }
+        if self.by_x().place() == other.by_x().place() {
+            return self.tag == other.tag;
         }
         false
     }
