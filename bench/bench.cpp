@@ -1,4 +1,5 @@
-// bench N TRIALS REPEATS [PEER...]: every peer, or those named, does the work for N marks; a line for each stage of each peer goes to standard output:
+// bench [--rows] N TRIALS REPEATS [PEER...]: every peer, or those named, does the work for N marks, with --rows for marks at whole centimetres; a line for each
+// stage of each peer goes to standard output:
 //   peer,n,stage,operations,ns per operation,sum of answers,sum of the sums of grades,sum of the worst grades,sum of visits,most visits
 // The answers are counts, or for a change what was rebuilt. The peers take turns, and a stage's time is the least of its repeats. Status 1 where two peers that
 // tell the same thing differ, 2 for arguments that make no sense. Under valgrind each stage is dumped by name, with one PEER and one repeat.
@@ -140,11 +141,14 @@ static void print(const Peer &p, uint32_t n) {
 }
 
 int main(int argc, char **argv) {
+    bool rows = argc > 1 && argv[1] == std::string("--rows");
+    argc -= rows;
+    argv += rows;
     if (argc < 4) return 2;
     uint32_t n = static_cast<uint32_t>(atoi(argv[1])), trials = static_cast<uint32_t>(atoi(argv[2]));
     std::vector<Peer> peers = choose({argv + 4, argv + argc});
     if (peers.empty()) return 2;
-    Work work(n, trials);
+    Work work(n, trials, rows ? CENTIMETRE : 1);
     for (int i = 0; i < atoi(argv[3]); i++)
         for (Peer &p : peers) keep(p.best, p.run(work));
     for (const Peer &p : peers) print(p, n);

@@ -7,7 +7,8 @@ FOLDER = os.path.join(os.path.dirname(os.path.abspath(__file__)), "..", "target"
 PEERS = ["register", "twin", "parted", "scan", "rstar", "quadratic"]
 SIDES = [3, 30, 300]  # of a pane, in centimetres
 COUNTS = [f"count {side} cm" for side in SIDES]
-STAGES = ["insert", "strike", "insert again"] + COUNTS
+CHANGES = ["insert", "strike", "insert again"]
+STAGES = CHANGES + COUNTS
 
 
 def number(text):

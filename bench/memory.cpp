@@ -86,7 +86,7 @@ static double ns_per_open(uint32_t n) {
 }
 
 static void print(uint32_t n) {
-    Work work(n, 0);
+    Work work(n, 0, 1);
     Pair pair(n);
     pair.both([](Table &t) { t.open(); });
     Written open = pair.look();

@@ -4,7 +4,7 @@ import argparse
 import os
 import sys
 
-from figures import COUNTS, FOLDER, PEERS, SIDES, STAGES, bound, by_peer, levels, log_squared, mean_visits, rows, sizes
+from figures import CHANGES, COUNTS, FOLDER, PEERS, SIDES, STAGES, bound, by_peer, levels, log_squared, mean_visits, rows, sizes
 
 START, END = "<!-- tables -->", "<!-- end of tables -->"
 TWINS = ["twin", "parted"]
@@ -47,6 +47,30 @@ def instructions_of(instructions):
     return table(["stage"] + PEERS, lines)
 
 
+def missed_of(instructions):
+    lines = []
+    for n in sizes(instructions):
+        for stage in STAGES:
+            of = {peer: instructions[n, stage, peer] for peer in PEERS}
+            lines.append([f"{n:,} marks: {stage}"] + [figure(of[peer]["missed"]) for peer in PEERS] + [figure(of["register"]["branches"])])
+    return table(["stage"] + PEERS + ["of the register's branches"], lines)
+
+
+def rows_of(times, rows_times, rows_instructions):
+    """Changes of marks in rows, and beside them those of the same number of marks as the camera gives them."""
+    lines = []
+    for n in sizes(rows_times):
+        for stage in CHANGES:
+            line = []
+            for peer in ["register", "twin"]:
+                key = n, stage, peer
+                ns, steps = rows_times[key]["ns"], rows_instructions[key]
+                line += [figure(ns), ratio(ns / times[key]["ns"]), figure(steps["instructions"]), figure(steps["missed"])]
+            lines.append([f"{n:,} marks: {stage}"] + line)
+    head = [f"{peer}, {what}" for peer in ["register", "twin"] for what in ("ns", "times that of other marks", "instructions", "branches missed")]
+    return table(["stage"] + head, lines)
+
+
 def growth_of(growth):
     lines = []
     for n in sizes(growth):
@@ -75,10 +99,12 @@ def opening_of(lines):
 
 def report():
     times, instructions, growth, memory = by_peer("times.csv"), by_peer("instructions.csv"), by_peer("growth.csv"), list(rows("memory.csv"))
+    in_rows = rows_of(times, by_peer("rows.csv"), by_peer("rows_instructions.csv"))
     with open(os.path.join(FOLDER, "machine.txt")) as file:
         machine = file.read().strip()
     parts = [f"Machine: {machine}.\n", "### Times\n"] + [times_of(times, instructions, n) for n in sizes(times)]
-    parts += ["### Instructions per operation\n", instructions_of(instructions), "### Growth of the register\n", growth_of(growth)]
+    parts += ["### Instructions per operation\n", instructions_of(instructions), "### Branches missed per operation\n", missed_of(instructions)]
+    parts += ["### Marks in rows\n", in_rows, "### Growth of the register\n", growth_of(growth)]
     parts += ["### Words written\n", memory_of(memory), "### Opening\n", opening_of(memory)]
     return "\n".join(parts)
 

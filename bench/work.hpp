@@ -37,16 +37,17 @@ public:
 };
 
 // A camera's marks without end: one entry in five is a single stone, the others are scratches of 8 to 39 marks along a line, up to 3 mm apart in x and in y.
+// Coordinates are cut to multiples of `grid`: with a wide one the marks lie in rows, and many share x or y.
 // The tags are all different, so no mark comes twice. The grades have random numbers of their own: where the marks lie does not depend on them.
 class Camera {
     Random random, grades;
-    uint32_t tag = 0, left = 0;
+    uint32_t grid, tag = 0, left = 0;
     int64_t x = 0, y = 0, dx = 0, dy = 0;
 
-    static uint32_t on_sheet(int64_t v) { return v < 0 ? 0 : v >= SHEET ? SHEET - 1 : static_cast<uint32_t>(v); }
+    uint32_t on_sheet(int64_t v) const { return (v < 0 ? 0 : v >= SHEET ? SHEET - 1 : static_cast<uint32_t>(v)) / grid * grid; }
 
 public:
-    explicit Camera(uint64_t seed) : random(seed), grades(~seed) {}
+    Camera(uint64_t seed, uint32_t grid) : random(seed), grades(~seed), grid(grid) {}
 
     Mark next() {
         if (left == 0) {
@@ -74,8 +75,8 @@ struct Work {
     std::vector<Pane> panes[3];
 
     // n marks; as many strikes of random live marks and insertions of new ones, in four rounds; `trials` panes of each size.
-    Work(uint32_t n, uint32_t trials) {
-        Camera camera(n);
+    Work(uint32_t n, uint32_t trials, uint32_t grid) {
+        Camera camera(n, grid);
         Random random(n + 1);
         for (uint32_t i = 0; i < n; i++) marks.push_back(camera.next());
         std::vector<Mark> live = marks;
