@@ -1,7 +1,7 @@
--- The order of keys, key by key, and the marks' orders and sameness by it. Assumes nothing.
+-- The order of keys by their places (R-5), and the marks' orders and sameness by it. Assumes nothing.
 use Prim.Native.Nat.{ℕ, _<_}
-use mathlib.Core.Path.{_≡_, refl, sym, ap, _∙_}
-use mathlib.Core.Bool.{true, false, and-true, and-false, or-false}
+use mathlib.Core.Path.{_≡_, refl, sym, _∙_}
+use mathlib.Core.Bool.{true, false, _&&_, and-true, and-false, or-false}
 use mathlib.Core.List.{List, [], _∷_}
 use lib.Dec.{ltb, eqb}
 use native.Mathlib.Omega.{arith}
@@ -23,31 +23,35 @@ minor k = k .minor
 abbrev tags : List (Key → ℕ)
 tags = (λ k. k .tag) ∷ []
 
--- R-5: "for any words", the places of two keys and then their tags give the order of the keys.
+-- R-5: "for any words", the places of two keys and then their tags give the order of the keys. The minor coordinate is below the factor of the major one, so
+-- that decides wherever it differs; where it does not, places differ as the minor ones do.
 module _ (a b : Key) (p : a .minor < 4294967296) (q : b .minor < 4294967296) where
-  place-decides : a .major ≡ b .major → lexicographic (place ∷ tags) a b ≡ lexicographic (minor ∷ tags) a b
-  place-decides e =
+  minor-decides : a .major ≡ b .major → lexicographic (place ∷ tags) a b ≡ lexicographic (minor ∷ tags) a b
+  minor-decides e =
       by-order (a .minor) (b .minor)
       (λ h. lexicographic-lt place tags a b (omega arith) ∙ sym (lexicographic-lt minor tags a b h))
       (λ h. lexicographic-eq place tags a b (omega arith) ∙ sym (lexicographic-eq minor tags a b h))
       (λ h. lexicographic-gt place tags a b (omega arith) ∙ sym (lexicographic-gt minor tags a b h))
 
-  pub place-below : placeBelow a b ≡ keyBelow a b
+  major-decides : lexicographic (place ∷ tags) a b ≡ keyBelow a b
   unfolding keyBelow
-  place-below =
+  major-decides =
       by-order (a .major) (b .major)
       (λ h. lexicographic-lt place tags a b (omega arith) ∙ sym (lexicographic-lt major (minor ∷ tags) a b h))
-      (λ h. place-decides h ∙ sym (lexicographic-eq major (minor ∷ tags) a b h))
+      (λ h. minor-decides h ∙ sym (lexicographic-eq major (minor ∷ tags) a b h))
       (λ h. lexicographic-gt place tags a b (omega arith) ∙ sym (lexicographic-gt major (minor ∷ tags) a b h))
 
+  pub place-below : placeBelow a b ≡ keyBelow a b
+  place-below = sym (simp (and-false, or-false)) ∙ major-decides
+
   pub place-lt : place a < place b → keyBelow a b ≡ true
-  place-lt h = sym place-below ∙ lexicographic-lt place tags a b h
+  place-lt h = sym major-decides ∙ lexicographic-lt place tags a b h
 
   pub place-eq : place a ≡ place b → keyBelow a b ≡ ltb (a .tag) (b .tag)
-  place-eq h = sym place-below ∙ lexicographic-eq place tags a b h ∙ simp (and-false, or-false)
+  place-eq h = sym major-decides ∙ lexicographic-eq place tags a b h ∙ simp (and-false, or-false)
 
   pub place-gt : place b < place a → keyBelow a b ≡ false
-  place-gt h = sym place-below ∙ lexicographic-gt place tags a b h
+  place-gt h = sym major-decides ∙ lexicographic-gt place tags a b h
 
 module _ (a b : Mark) where
   pub keyX-below : keyBelow (keyX a) (keyX b) ≡ belowX (markValue a) (markValue b)
@@ -65,18 +69,14 @@ module _ (a b : Mark) where
   pub placeY-below : a .x < 4294967296 → b .x < 4294967296 → placeBelow (keyY a) (keyY b) ≡ belowY (markValue a) (markValue b)
   placeY-below p q = place-below (keyY a) (keyY b) p q ∙ keyY-below
 
-  -- sameness by the places of the keys, and the tags
-  module _ (p : a .y < 4294967296) (q : b .y < 4294967296) {h k : Key} (e : h ≡ keyX a) (f : k ≡ keyX b) where
-    pub same-eq : place h ≡ place k → same (markValue a) (markValue b) ≡ eqb (a .tag) (b .tag)
-    unfolding same
-    same-eq t =
-        let one : place (keyX a) ≡ place (keyX b) = sym (ap place e) ∙ t ∙ ap place f in
-        rw (eq-eqb (a .x) (b .x) (omega arith), eq-eqb (a .y) (b .y) (omega arith), and-true)
-
-    pub same-ne : (place h ≡ place k → ⊥) → same (markValue a) (markValue b) ≡ false
-    unfolding same
-    same-ne n =
-        by-order (a .x) (b .x)
-        (λ t. rw (ne-eqb (a .x) (b .x) (omega arith)))
-        (λ t. rw (ne-eqb (a .y) (b .y) (λ u. n (omega (arith, ap place e, ap place f))), and-false))
-        (λ t. rw (ne-eqb (a .x) (b .x) (omega arith)))
+  pub place-same : a .y < 4294967296 → b .y < 4294967296
+      → (eqb (place (keyX a)) (place (keyX b)) && eqb (a .tag) (b .tag)) ≡ same (markValue a) (markValue b)
+  unfolding same
+  place-same p q =
+      by-order (a .x) (b .x)
+      (λ h. rw (ne-eqb (a .x) (b .x) (omega arith), ne-eqb (place (keyX a)) (place (keyX b)) (omega arith)))
+      (λ e. by-order (a .y) (b .y)
+      (λ h. rw (ne-eqb (a .y) (b .y) (omega arith), ne-eqb (place (keyX a)) (place (keyX b)) (omega arith), and-false))
+      (λ f. rw (eq-eqb (a .x) (b .x) e, eq-eqb (a .y) (b .y) f, eq-eqb (place (keyX a)) (place (keyX b)) (omega arith), and-true))
+      (λ h. rw (ne-eqb (a .y) (b .y) (omega arith), ne-eqb (place (keyX a)) (place (keyX b)) (omega arith), and-false)))
+      (λ h. rw (ne-eqb (a .x) (b .x) (omega arith), ne-eqb (place (keyX a)) (place (keyX b)) (omega arith)))

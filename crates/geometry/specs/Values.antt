@@ -1,7 +1,8 @@
 -- What the crate's values mean: the model's mark, box and keys, and document 01's number for each case of an answer. Assumes nothing.
 use Prim.Native.Nat.{ℕ, _+_, _*_}
-use mathlib.Core.Bool.{Bool}
+use mathlib.Core.Bool.{Bool, _&&_, _||_}
 use mathlib.Core.List.{[], _∷_}
+use lib.Dec.{ltb, eqb}
 use Rattle.model.specs.Axis.{lexicographic}
 use Rattle.model.specs.Sheet
 use Rattle.model.specs.Refusals.{Outcome, accepted, refused}
@@ -34,7 +35,7 @@ abbrev pub place : Key → ℕ
 place k = k .major * 4294967296 + k .minor
 
 abbrev pub placeBelow : Key → Key → Bool
-placeBelow = lexicographic (place ∷ (λ k. k .tag) ∷ [])
+placeBelow a b = ltb (place a) (place b) || (eqb (place a) (place b) && ltb (a .tag) (b .tag))
 
 -- "insert, strike: the mark: 5"; "12, grade outside 1 to 100" (R-1)
 abbrev pub markOutcome : NewMark → Outcome Sheet.Mark

@@ -45,7 +45,7 @@ impl Key {
         4294967296 * (self.major as u64) + (self.minor as u64)
     }
 
-    // For both orders: two places are compared here and in `Mark::same`, by their numbers.
+    // For both orders: two places are compared here and in `Mark::same`, by their numbers. Of the forms that say this, the one that takes the least time.
     fn below(self, other: Key) -> bool
         ensures { λ r. ⌜ r ≡ keyBelow self other ⌝ }
     {
@@ -150,10 +150,7 @@ impl Mark {
     pub fn same(self, other: Mark) -> bool
         ensures { λ r. ⌜ r ≡ same (markValue self) (markValue other) ⌝ }
     {
-        if self.by_x().place() == other.by_x().place() {
-            return self.tag == other.tag;
-        }
-        false
+        (self.by_x().place() == other.by_x().place()) & (self.tag == other.tag)
     }
 }
 

@@ -1,8 +1,9 @@
--- `Mark::same` meets its contract: by the tags where the places are one. Assumes nothing.
-use mathlib.Core.Path.{sym}
+-- `Mark::same` meets its contract: marks are the same where their places are one number and their tags are equal. Assumes nothing.
+use mathlib.Core.Path.{ap, _∙_}
 use native.Mathlib.Omega.{arith}
 use borrow.Author.Needs.{needs}
-use Rattle.geometry.proofs.Keys.{same-eq, same-ne}
+use Rattle.geometry.specs.Values.{place}
+use Rattle.geometry.proofs.Keys.{place-same}
 use Rattle.geometry.proofs.Mark.same.Statement.{statement}
 use Rattle.geometry.proofs.Mark.same.Tie as tie
 
@@ -20,18 +21,12 @@ place-requires-2 c κs = search needs
 
 returns : tie.Need-returns
 returns c =
-    let compared = c .before .before .before in
-    let first = compared .before .before .before in
-    let start = first .before in
-    sym (same-eq (start .args .self) (start .args .other) (omega arith) (omega arith) (first .by-x .ensures) (compared .before .by-x2 .ensures) (omega arith))
-
-returns-2 : tie.Need-returns-2
-returns-2 c =
-    let compared = c .before in
-    let first = compared .before .before .before in
-    let start = first .before in
-    sym (same-ne (start .args .self) (start .args .other) (omega (arith, start .good .0)) (omega (arith, start .good .1 .0))
-    (first .by-x .ensures) (compared .before .by-x2 .ensures) (omega arith))
+    let compared = c .before .before in
+    let first = compared .before .before in
+    let start = first .before .before in
+    let here = first .place .ensures ∙ ap place (first .before .by-x .ensures) in
+    let there = compared .place2 .ensures ∙ ap place (compared .before .by-x2 .ensures) in
+    rw (here, there) (place-same (start .args .self) (start .args .other) (omega (arith, start .good .0)) (omega (arith, start .good .1 .0)))
 
 pub same-spec : {M : Type 1} → statement M
-same-spec = tie.close (tie.spec by-x-requires place-requires by-x-requires-2 place-requires-2 returns returns-2)
+same-spec = tie.close (tie.spec by-x-requires place-requires by-x-requires-2 place-requires-2 returns)
