@@ -5,10 +5,10 @@ use mathlib.Core.Bool.{true, false, _&&_, and-true, and-false, or-false}
 use mathlib.Core.List.{List, [], _∷_}
 use lib.Dec.{ltb, eqb}
 use native.Mathlib.Omega.{arith}
-use borrow.Author.Tests.{eq-eqb, ne-eqb}
+use borrow.Author.Tests.{eq-eqb, ne-eqb, eqb-true, eqb-false}
 use Rattle.model.specs.Axis.{lexicographic}
 use Rattle.model.specs.Sheet.{belowX, belowY, same}
-use Rattle.model.proofs.Logic.{by-order}
+use Rattle.model.proofs.Logic.{by-cases, by-order}
 use Rattle.model.proofs.Orders.{lexicographic-lt, lexicographic-eq, lexicographic-gt}
 use Rattle.geometry.specs.declared.Mark.{Mark}
 use Rattle.geometry.specs.declared.Key.{Key}
@@ -23,23 +23,25 @@ minor k = k .minor
 abbrev tags : List (Key → ℕ)
 tags = (λ k. k .tag) ∷ []
 
+module _ (f g : Key → ℕ) (fs gs : List (Key → ℕ)) (a b : Key) where
+  -- f first is g first, where f rises and falls with g and orders as the rest does where g is equal
+  follows : (g a < g b → f a < f b) → (g b < g a → f b < f a) → (g a ≡ g b → lexicographic (f ∷ fs) a b ≡ lexicographic gs a b)
+      → lexicographic (f ∷ fs) a b ≡ lexicographic (g ∷ gs) a b
+  follows rises falls level =
+      by-order (g a) (g b)
+      (λ h. lexicographic-lt f fs a b (rises h) ∙ sym (lexicographic-lt g gs a b h))
+      (λ h. level h ∙ sym (lexicographic-eq g gs a b h))
+      (λ h. lexicographic-gt f fs a b (falls h) ∙ sym (lexicographic-gt g gs a b h))
+
 -- R-5: "for any words", the places of two keys and then their tags give the order of the keys. The minor coordinate is below the factor of the major one, so
 -- that decides wherever it differs; where it does not, places differ as the minor ones do.
 module _ (a b : Key) (p : a .minor < 4294967296) (q : b .minor < 4294967296) where
   minor-decides : a .major ≡ b .major → lexicographic (place ∷ tags) a b ≡ lexicographic (minor ∷ tags) a b
-  minor-decides e =
-      by-order (a .minor) (b .minor)
-      (λ h. lexicographic-lt place tags a b (omega arith) ∙ sym (lexicographic-lt minor tags a b h))
-      (λ h. lexicographic-eq place tags a b (omega arith) ∙ sym (lexicographic-eq minor tags a b h))
-      (λ h. lexicographic-gt place tags a b (omega arith) ∙ sym (lexicographic-gt minor tags a b h))
+  minor-decides e = follows place minor tags tags a b (λ h. omega arith) (λ h. omega arith) (λ h. lexicographic-eq place tags a b (omega arith))
 
   major-decides : lexicographic (place ∷ tags) a b ≡ keyBelow a b
   unfolding keyBelow
-  major-decides =
-      by-order (a .major) (b .major)
-      (λ h. lexicographic-lt place tags a b (omega arith) ∙ sym (lexicographic-lt major (minor ∷ tags) a b h))
-      (λ h. minor-decides h ∙ sym (lexicographic-eq major (minor ∷ tags) a b h))
-      (λ h. lexicographic-gt place tags a b (omega arith) ∙ sym (lexicographic-gt major (minor ∷ tags) a b h))
+  major-decides = follows place major tags (minor ∷ tags) a b (λ h. omega arith) (λ h. omega arith) minor-decides
 
   pub place-below : placeBelow a b ≡ keyBelow a b
   place-below = sym (simp (and-false, or-false)) ∙ major-decides
@@ -73,10 +75,8 @@ module _ (a b : Mark) where
       → (eqb (place (keyX a)) (place (keyX b)) && eqb (a .tag) (b .tag)) ≡ same (markValue a) (markValue b)
   unfolding same
   place-same p q =
-      by-order (a .x) (b .x)
-      (λ h. rw (ne-eqb (a .x) (b .x) (omega arith), ne-eqb (place (keyX a)) (place (keyX b)) (omega arith)))
-      (λ e. by-order (a .y) (b .y)
-      (λ h. rw (ne-eqb (a .y) (b .y) (omega arith), ne-eqb (place (keyX a)) (place (keyX b)) (omega arith), and-false))
-      (λ f. rw (eq-eqb (a .x) (b .x) e, eq-eqb (a .y) (b .y) f, eq-eqb (place (keyX a)) (place (keyX b)) (omega arith), and-true))
-      (λ h. rw (ne-eqb (a .y) (b .y) (omega arith), ne-eqb (place (keyX a)) (place (keyX b)) (omega arith), and-false)))
-      (λ h. rw (ne-eqb (a .x) (b .x) (omega arith), ne-eqb (place (keyX a)) (place (keyX b)) (omega arith)))
+      by-cases (eqb (a .x) (b .x))
+      (λ t. by-cases (eqb (a .y) (b .y))
+      (λ u. rw (t, u, eq-eqb (place (keyX a)) (place (keyX b)) (omega (arith, eqb-true (a .x) (b .x) t, eqb-true (a .y) (b .y) u)), and-true))
+      (λ u. rw (t, u, ne-eqb (place (keyX a)) (place (keyX b)) (omega (arith, eqb-false (a .y) (b .y) u)))))
+      (λ t. rw (t, ne-eqb (place (keyX a)) (place (keyX b)) (omega (arith, eqb-false (a .x) (b .x) t))))
