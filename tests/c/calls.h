@@ -138,9 +138,11 @@ static inline int lists_left_alone(struct call c, struct answer r, const struct 
 
 static inline int all_guarded(const struct loan *l) { return guarded(l->table) && guarded(l->lists[0]) && guarded(l->lists[1]); }
 
-/* A table and two lists of so many words. */
+/* A table and two lists of so many words. Lent one after the other: C leaves the order within an initializer open, and each is filled with drawn words. */
 static inline struct loan borrow(size_t words, size_t list_words) {
-    struct loan l = {lend(words), {lend(list_words), lend(list_words)}, {list_words, list_words}};
+    struct loan l = {.lent = {list_words, list_words}};
+    l.table = lend(words);
+    for (int i = 0; i < 2; i++) l.lists[i] = lend(list_words);
     return l;
 }
 

@@ -47,7 +47,7 @@ static void make_call(struct run *r, struct call c) {
     met_damage += a.number == REGISTER_UNSOUND;
 }
 
-/* Numbers are drawn one to a statement: C leaves the order within an initializer open, and the digests must not depend on it. */
+/* Numbers are drawn in an order that C settles, not two in one initializer or sum: the digests must not depend on the compiler. */
 
 static struct mark any_mark(const struct run *r) {
     struct mark m;
@@ -142,7 +142,8 @@ static uint32_t any_word(uint32_t span) {
 
 /* A word of a slot's mark mostly, or any word but the header's first three. */
 static void spoil(struct run *r) {
-    size_t words = r->loan.table.words, at = slot_at(draw(r->capacity)) + draw(GRADE);
+    size_t words = r->loan.table.words, at = slot_at(draw(r->capacity));
+    at += draw(GRADE);
     if (one_in(6)) at = ROOT + draw((uint32_t)words - ROOT);
     r->loan.table.word[at] = any_word(r->span);
 }

@@ -45,7 +45,7 @@ impl Key {
         4294967296 * (self.major as u64) + (self.minor as u64)
     }
 
-    // For both orders: two places are compared here and in `Mark::same`, by their numbers. Of the forms that say this, the one that takes the least time.
+    // For both orders: two places are compared here and in `Mark::same`, by their numbers. Why in this form: docs/DECISIONS.md.
     fn below(self, other: Key) -> bool
         ensures { λ r. ⌜ r ≡ keyBelow self other ⌝ }
     {
