@@ -4,7 +4,7 @@ ghost use Rattle.checking.specs.Span.{span, no_span, joins♯};
 ghost use Rattle.checking.specs.Values.{ends_value};
 
 // The least and the greatest slot of a tree that is sound.
-#[derive(Drop)]
+#[derive(Clone, Copy)]
 pub struct Ends {
     pub first: u32,
     pub last: u32,

@@ -6,7 +6,7 @@ ghost use Rattle.dialogue.specs.Dialogue.{dialogue, Batched};
 use crate::turn;
 
 // How many bytes of the chunk were fed, how many bytes of `out` are to be printed for them, and the length of the open line.
-#[derive(Drop)]
+#[derive(Clone, Copy)]
 pub struct Batch {
     pub used: usize,
     pub bytes: usize,

@@ -8,7 +8,7 @@ use crate::perform;
 use lines::input;
 
 // After a byte: the length of the open line, and how many bytes of `out` are to be printed.
-#[derive(Drop)]
+#[derive(Clone, Copy)]
 pub struct Turn {
     pub len: u32,
     pub bytes: u32,

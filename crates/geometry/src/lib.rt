@@ -1,4 +1,6 @@
 // Marks and boxes on a sheet (document 01, "Marks, boxes, tables"), by value.
+#![tactic(auto)]
+
 ghost use Rattle.std.specs.Prelude.{◌≡◌, not};
 ghost use Rattle.model.specs.Axis.{cell_inside, cell_clear};
 ghost use Rattle.model.specs.Sheet.{mark, below_x, below_y, same, holds, mark_outside, grade_outside, along_x, along_y};
@@ -15,7 +17,7 @@ ghost use Rattle.geometry.specs.Values.{
 };
 
 // A flaw of the sheet: its place in hundredths of a millimetre, a tag, and a grade, which is no part of its sameness.
-#[derive(Drop)]
+#[derive(Clone, Copy)]
 pub struct Mark {
     pub x: u32,
     pub y: u32,
@@ -24,7 +26,7 @@ pub struct Mark {
 }
 
 // A mark, or the refusals 5 (document 01) and 12 (R-1, "checked after 5").
-#[derive(Drop)]
+#[derive(Clone, Copy)]
 pub enum NewMark {
     Valid(Mark),
     Outside,
@@ -32,7 +34,7 @@ pub enum NewMark {
 }
 
 // What an order compares: the first coordinate, then the second, then the tag.
-#[derive(Drop)]
+#[derive(Clone, Copy)]
 struct Key {
     major: u32,
     minor: u32,
@@ -157,7 +159,7 @@ impl Mark {
 }
 
 // A pane: both sides with their low ends and without their high ones, so that panes that share a cut share no mark (R-2).
-#[derive(Drop)]
+#[derive(Clone, Copy)]
 pub struct Box {
     pub x1: u32,
     pub x2: u32,
@@ -166,7 +168,7 @@ pub struct Box {
 }
 
 // A box of four words, or document 01's refusal 6.
-#[derive(Drop)]
+#[derive(Clone, Copy)]
 pub enum NewBox {
     Valid(Box),
     Crossed,

@@ -9,7 +9,7 @@ use crate::number::Field;
 use geometry::{Box, Mark};
 
 // A command with its numbers, which may be any words; or a line that has none of the four forms, document 01's refusal 11.
-#[derive(Drop)]
+#[derive(Clone, Copy)]
 pub enum Line {
     Insert(Mark),
     // x, y, tag
@@ -20,13 +20,13 @@ pub enum Line {
 }
 
 // What the rest of a line holds: so many numbers, or anything else.
-#[derive(Drop)]
+#[derive(Clone, Copy)]
 enum Three {
     Numbers(u32, u32, u32),
     Nothing,
 }
 
-#[derive(Drop)]
+#[derive(Clone, Copy)]
 enum Four {
     Numbers(u32, u32, u32, u32),
     Nothing,

@@ -6,7 +6,7 @@ ghost use Rattle.lines.specs.Values.{field_value};
 ghost use Rattle.lines.specs.Writing.{Wrote};
 
 // What stands at a place of a line: a number and the place after it, or none.
-#[derive(Drop)]
+#[derive(Clone, Copy)]
 pub enum Field {
     Number(u32, usize),
     Nothing,

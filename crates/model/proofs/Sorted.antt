@@ -62,7 +62,7 @@ module _ {M B : Type 0} {S : Space M B} (E : SamenessLaws S) where
   pub distinct_cons : (m : M) (l : List M) → count_if (S.same m) l ≡ 0 → Distinct S l → Distinct S (m ∷ l)
   distinct_cons m l e d q =
       by_cases (S.same q m)
-      (λ t. rw (t, E.alike q m t, e) (omega arith))
+      (λ t. let z : count_if (S.same q) l ≡ 0 = ap (λ f. count_if f l) (E.alike q m t) ∙ e in rw t (omega arith))
       (λ f. rw f (omega (arith, d q)))
 
   pub distinct_head : (m : M) (l : List M) → Distinct S (m ∷ l) → count_if (S.same m) l ≡ 0
@@ -105,7 +105,9 @@ module _ {M B : Type 0} {S : Space M B} {A : Axis M B} (E : SamenessLaws S) (O :
   sorted-distinct sorted[] m = omega arith
   sorted-distinct (sorted∷ {m = q} {l = l} k s) m =
       by_cases (S.same m q)
-      (λ t. rw (t, E.alike m q t, count_if-none (S.same q) (all_map (λ z e. O.apart q z e) k)) (omega arith))
+      (λ t.
+      let z : count_if (S.same m) l ≡ 0 = ap (λ f. count_if f l) (E.alike m q t) ∙ count_if-none (S.same q) (all_map (λ z e. O.apart q z e) k) in
+      rw t (omega arith))
       (λ f. rw f (omega (arith, sorted-distinct s m)))
 
   -- an ordered list is known by its marks, where a test tells whether two marks are one

@@ -1,1 +1,2 @@
 // Pure definitions (specs/) and laws (proofs/); no code.
+#![tactic(auto)]

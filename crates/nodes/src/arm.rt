@@ -10,7 +10,7 @@ use crate::weights;
 use table::{grades, layout, runs, words};
 
 // What points to a tree: its root's number, its weight, its cell along the tree's axis, and the figure of its grades. Weight 0: no tree.
-#[derive(Drop)]
+#[derive(Clone, Copy)]
 pub struct Arm {
     pub node: u32,
     pub weight: u32,
@@ -20,14 +20,14 @@ pub struct Arm {
 }
 
 // The arms of an inner node's children.
-#[derive(Drop)]
+#[derive(Clone, Copy)]
 pub struct Record {
     pub left: Arm,
     pub right: Arm,
 }
 
 // The fork of a mark's way at an inner node: whether it goes left, the weight of the child that it goes to, and that of the other one.
-#[derive(Drop)]
+#[derive(Clone, Copy)]
 pub struct Fork {
     pub left: bool,
     pub child: u32,

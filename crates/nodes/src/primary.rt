@@ -17,11 +17,11 @@ use geometry::Mark;
 use table::{layout, slots};
 
 // A node's number: 2 s for the leaf of slot s, 2 s + 1 for the inner node named s.
-#[derive(Drop)]
+#[derive(Clone, Copy)]
 pub struct Primary(pub u32);
 
 // What points to a tree: its root, its weight, its cell along the tree's axis, and the figure of its grades. Weight 0: no tree.
-#[derive(Drop)]
+#[derive(Clone, Copy)]
 pub struct PrimaryArm {
     pub node: Primary,
     pub weight: u32,
@@ -31,14 +31,14 @@ pub struct PrimaryArm {
 }
 
 // The arms of an inner node's children.
-#[derive(Drop)]
+#[derive(Clone, Copy)]
 pub struct PrimaryRecord {
     pub left: PrimaryArm,
     pub right: PrimaryArm,
 }
 
 // The way of a mark at an inner node: whether it goes left, the child that it goes to, and the other one.
-#[derive(Drop)]
+#[derive(Clone, Copy)]
 pub struct PrimaryWay {
     pub left: bool,
     pub child: PrimaryArm,

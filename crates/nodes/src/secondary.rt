@@ -16,11 +16,11 @@ use geometry::Mark;
 use table::{layout, slots};
 
 // A node's number: 2 s for the leaf of slot s, 2 s + 1 for the inner node named s.
-#[derive(Drop)]
+#[derive(Clone, Copy)]
 pub struct Secondary(pub u32);
 
 // What points to a tree: its root, its weight, its cell along the tree's axis, and the figure of its grades. Weight 0: no tree.
-#[derive(Drop)]
+#[derive(Clone, Copy)]
 pub struct SecondaryArm {
     pub node: Secondary,
     pub weight: u32,
@@ -30,14 +30,14 @@ pub struct SecondaryArm {
 }
 
 // The arms of an inner node's children.
-#[derive(Drop)]
+#[derive(Clone, Copy)]
 pub struct SecondaryRecord {
     pub left: SecondaryArm,
     pub right: SecondaryArm,
 }
 
 // The way of a mark at an inner node: whether it goes left, the child that it goes to, and the other one.
-#[derive(Drop)]
+#[derive(Clone, Copy)]
 pub struct SecondaryWay {
     pub left: bool,
     pub child: SecondaryArm,

@@ -4,7 +4,7 @@ ghost use Rattle.model.specs.History.{refusal};
 ghost use Rattle.register.specs.Answers.{open_answer, update_answer, count_answer, list_figures, check_answer};
 ghost use Rattle.register.specs.Answers.{table_given, update_given, count_given, list_refused};
 
-#[derive(Drop)]
+#[derive(Clone, Copy)]
 pub enum Opening {
     Opened,
     Capacity,
@@ -12,7 +12,7 @@ pub enum Opening {
 }
 
 // Of an insertion or a strike: the live marks and the weight of the main node built afresh, or 0.
-#[derive(Drop)]
+#[derive(Clone, Copy)]
 pub enum Update {
     Done(u32, u32),
     NotTable,
@@ -25,7 +25,7 @@ pub enum Update {
 }
 
 // The marks that the box holds, the visits, the sum of their grades and the worst.
-#[derive(Drop)]
+#[derive(Clone, Copy)]
 pub enum Count {
     Counted(u32, u32, u32, u32),
     NotTable,
@@ -34,7 +34,7 @@ pub enum Count {
 }
 
 // The marks listed, the visits, and which lent list they stand in; with `Short` the marks that would be listed.
-#[derive(Drop)]
+#[derive(Clone, Copy)]
 pub enum Listing {
     Listed(u32, u32, u32),
     NotTable,
@@ -44,7 +44,7 @@ pub enum Listing {
 }
 
 // The live marks.
-#[derive(Drop)]
+#[derive(Clone, Copy)]
 pub enum Check {
     Sound(u32),
     NotTable,
@@ -52,7 +52,7 @@ pub enum Check {
 }
 
 // The figures of each kind of answer, beside its number. `refused` gives 0 for every figure, but for the marks with number 10.
-#[derive(Drop)]
+#[derive(Clone, Copy)]
 pub struct TableFigures {
     pub number: u32,
     pub live: u32,
@@ -66,7 +66,7 @@ impl TableFigures {
     }
 }
 
-#[derive(Drop)]
+#[derive(Clone, Copy)]
 pub struct UpdateFigures {
     pub number: u32,
     pub live: u32,
@@ -85,7 +85,7 @@ impl UpdateFigures {
     }
 }
 
-#[derive(Drop)]
+#[derive(Clone, Copy)]
 pub struct CountFigures {
     pub number: u32,
     pub marks: u32,
@@ -108,7 +108,7 @@ impl CountFigures {
     }
 }
 
-#[derive(Drop)]
+#[derive(Clone, Copy)]
 pub struct ListFigures {
     pub number: u32,
     pub marks: u32,

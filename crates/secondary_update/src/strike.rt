@@ -17,7 +17,7 @@ use table::{limits, runs};
 
 // What a strike leaves of a tree: its arm, the weight of the node built afresh, or 0, and its least slot where the struck one was the least. Weight 0 of the
 // arm: the words hold no tree.
-#[derive(Drop)]
+#[derive(Clone, Copy)]
 pub struct Struck {
     pub arm: SecondaryArm,
     pub rebuilt: u32,

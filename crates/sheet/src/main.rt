@@ -1,5 +1,6 @@
 // The program `sheet` (document 01, "The planner and the line program"): it moves bytes from standard input to a dialogue, and the dialogue's responses to
 // standard output.
+#![tactic(auto)]
 ghost use Rattle.register.specs.Performs.{lends};
 ghost use Rattle.dialogue.specs.Responding.{Room};
 ghost use Rattle.dialogue.specs.Dialogue.{dialogue};
@@ -13,7 +14,7 @@ use libc::{STDERR_FILENO, STDIN_FILENO, STDOUT_FILENO};
 const MARKS: u32 = 40;
 
 // Why the program reads no more: the input is at its end, with an open line of so many bytes; or a read or a write failed.
-#[derive(Drop)]
+#[derive(Clone, Copy)]
 enum Stop {
     End(u32),
     Unreadable,
@@ -21,7 +22,7 @@ enum Stop {
 }
 
 // After a chunk: the length of the open line, or why there is no more.
-#[derive(Drop)]
+#[derive(Clone, Copy)]
 enum Input {
     More(u32),
     No(Stop),

@@ -1,4 +1,5 @@
 // How many levels and words a table needs for its capacity (document 01, "Marks, boxes, tables").
+#![tactic(auto)]
 ghost use Rattle.std.specs.Prelude.{◌≡◌, ◌+◌, ◌*◌, ◌≤◌};
 ghost use Rattle.model.specs.Refusals.{open_table};
 ghost use Rattle.model.specs.Sizes.{capacity_outside};
@@ -8,14 +9,14 @@ ghost use Rattle.sizes.specs.Sizes.{levels_for, words_for, visits_for, opening_o
 pub const LARGEST_CAPACITY: u32 = 65536;
 
 // What a capacity C asks of a table: its words, W(C), and the most visits of a count in it, (4 D(C) + 1) (2 D(C) + 1). Both are 0 for a capacity out of range.
-#[derive(Drop)]
+#[derive(Clone, Copy)]
 pub struct Size {
     pub words: usize,
     pub visits: u32,
 }
 
 // What opening a table finds: the words it needs, or why it cannot be.
-#[derive(Drop)]
+#[derive(Clone, Copy)]
 pub enum Opening {
     Fits(usize),
     Capacity,

@@ -6,7 +6,7 @@ ghost use Rattle.table.specs.Figures.{arrived, found_in, visits_in, grades_in};
 
 use crate::{limits, words};
 
-#[derive(Drop)]
+#[derive(Clone, Copy)]
 pub struct Figures(pub u64);
 
 impl Figures {

@@ -44,7 +44,7 @@ pub fn put_live(t: &mut [u32], live: u32)
 }
 
 // What the header of a table says: its capacity, its live marks, its own words, W(C) of those lent, and the most visits of a count in it.
-#[derive(Drop)]
+#[derive(Clone, Copy)]
 pub struct Header {
     pub capacity: u32,
     pub live: u32,

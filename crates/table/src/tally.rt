@@ -5,7 +5,7 @@ ghost use Rattle.table.specs.Tally.{visited};
 
 use crate::limits;
 
-#[derive(Drop)]
+#[derive(Clone, Copy)]
 pub struct Tally(pub u64);
 
 impl Tally {

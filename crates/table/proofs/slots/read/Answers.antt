@@ -1,0 +1,7 @@
+use Rattle.table.specs.Marks.{mark_at}
+use Rattle.std.proofs.Common.{rules, le-leb}
+use Rattle.table.proofs.slots.read.Goals as goal
+
+pub returns : goal.returns
+unfolding mark_at
+returns c = rw (le-leb _ _ c.requires)
