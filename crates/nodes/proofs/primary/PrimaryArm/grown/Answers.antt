@@ -1,0 +1,5 @@
+use borrow.Author.Rules.{rules}
+use Rattle.nodes.proofs.primary.PrimaryArm.grown.Goals as goal
+
+pub returns : goal.returns
+returns c = rw (← c.bare-a.ensures, ← c.grown.ensures, ← c.of.ensures)

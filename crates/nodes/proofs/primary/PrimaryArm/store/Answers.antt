@@ -1,0 +1,6 @@
+use borrow.Author.Rules.{rules}
+use Rattle.nodes.proofs.primary.PrimaryArm.store.Goals as goal
+
+pub returns : goal.returns
+returns c =
+    rw (← c.bare.ensures, ← c.store.ensures)

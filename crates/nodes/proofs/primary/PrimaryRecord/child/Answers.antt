@@ -1,0 +1,5 @@
+use borrow.Author.Rules.{rules}
+use Rattle.nodes.proofs.primary.PrimaryRecord.child.Goals as goal
+
+pub returns : goal.returns
+returns c = c.child.ensures

@@ -1,0 +1,6 @@
+use borrow.Author.Rules.{rules}
+use Rattle.nodes.proofs.primary.PrimaryRecord.store.Goals as goal
+
+pub returns : goal.returns
+returns c =
+    rw (← c.bare.ensures, ← c.bare-2.ensures, ← c.store.ensures)
