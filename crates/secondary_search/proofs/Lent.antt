@@ -25,6 +25,7 @@ get_d_drop (suc base) i [] = refl
 get_d_drop (suc base) i (x ∷ xs) = let e : suc base + i ≡ suc (base + i) = omega arith in rw e (get_d_drop base i xs)
 
 get_d_take : (n i : ℕ) (xs : List ℕ) → i < n → get_or (take n xs) i 0 ≡ get_or xs i 0
+get_d_take zero i xs h = absurd (omega (arith, h))
 get_d_take (suc n) i [] h = refl
 get_d_take (suc n) zero (x ∷ xs) h = refl
 get_d_take (suc n) (suc i) (x ∷ xs) h = get_d_take n i xs (omega (arith, h))
