@@ -1,0 +1,14 @@
+-- The loop keeps: left ≤ capacity; inverse♯ of left is that of capacity. What falls: left.
+use Prim.Native.Nat.{◌<◌, ◌≤◌}
+use mathlib.Core.Path.{◌≡◌}
+use native.Mathlib.Omega.{arith}
+use Rattle.table.proofs.Fuel.{positive, nothing}
+use Rattle.checking.specs.Slots.{inverse♯, inverse♯-zero, inverse♯-suc}
+use borrow.Author.Rules.{rules}
+use Rattle.checking.proofs.slots.inverse.Given as goal
+
+abbrev pub invariant-loop-left : goal.invariant-loop-left
+invariant-loop-left l = (l.left ≤ l.capacity) × (inverse♯ l.left l.capacity l.t ≡ inverse♯ l.capacity l.capacity l.t)
+
+abbrev pub decreases-loop-left : goal.decreases-loop-left
+decreases-loop-left l = l.left

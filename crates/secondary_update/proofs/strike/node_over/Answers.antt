@@ -1,0 +1,8 @@
+use borrow.Author.Rules.{rules}
+use Rattle.secondary_update.specs.Strike.{node_over}
+use Rattle.secondary_update.proofs.strike.node_over.Goals as goal
+
+pub returns : goal.returns
+unfolding node_over
+returns c =
+    rw (← c.store.ensures, ← c.over.ensures, ← c.answer.ensures)
