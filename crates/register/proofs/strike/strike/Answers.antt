@@ -1,0 +1,6 @@
+use Rattle.register.proofs.Updating.{strike-performs}
+use borrow.Author.Rules.{rules}
+use Rattle.register.proofs.strike.strike.Goals as goal
+
+pub returns : goal.returns
+returns c = strike-performs _ _ _ _ c.struck.auto.table c.struck.ensures

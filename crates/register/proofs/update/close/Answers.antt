@@ -1,0 +1,7 @@
+use Rattle.register.specs.Mirrors.{closed♯}
+use borrow.Author.Rules.{rules}
+use Rattle.register.proofs.update.close.Goals as goal
+
+pub returns : goal.returns
+unfolding closed♯
+returns c = rw (← c.put_open.ensures)
