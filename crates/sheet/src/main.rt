@@ -8,7 +8,7 @@ ghost use Rattle.dialogue.specs.Program.{Begun};
 ghost use Rattle.sheet.specs.Values.{Answers};
 
 use dialogue::{batch, turn};
-use libc::{STDERR_FILENO, STDIN_FILENO, STDOUT_FILENO};
+use std::io::{self, Read};
 
 // The marks that the table is opened for.
 const MARKS: u32 = 40;
@@ -30,6 +30,7 @@ enum Input {
 
 // Feeds a chunk and writes the responses, as many at once as `out` has room for. Where they cannot be written it stops.
 fn answer(
+    rt: &impl Print,
     table: &mut [u32],
     first: &mut [u32],
     second: &mut [u32],
@@ -47,7 +48,7 @@ fn answer(
     while at < chunk.len() {
         let fed = batch::feed_some(table, first, second, line, begun, &chunk[at..], out);
         let n = fed.bytes;
-        if !io::write_all(STDOUT_FILENO, &out[0..n]) {
+        if rt.write_all(&out[0..n]).is_err() {
             return Input::No(Stop::Unwritable);
         }
         begun = fed.len;
@@ -58,6 +59,8 @@ fn answer(
 
 // Reads a chunk, as much as a pipe holds, and answers it.
 fn read_some(
+    input: &mut impl Read,
+    rt: &impl Print,
     table: &mut [u32],
     first: &mut [u32],
     second: &mut [u32],
@@ -68,19 +71,17 @@ fn read_some(
     requires { Room first.old out.old }
 {
     let mut chunk = [0u8; 65536];
-    let got = libc::read(STDIN_FILENO, &mut chunk);
-    if got < 0 {
-        return Input::No(Stop::Unreadable);
+    match input.read(&mut chunk) {
+        Err(_) => Input::No(Stop::Unreadable),
+        Ok(0) => Input::No(Stop::End(len)),
+        Ok(n) => answer(rt, table, first, second, line, len, &chunk[..n], out),
     }
-    if got == 0 {
-        return Input::No(Stop::End(len));
-    }
-    let n = io::count(got, &chunk);
-    answer(table, first, second, line, len, &chunk[..n], out)
 }
 
 // Reads and answers the input to its end, or as far as it can. A proved loop has to end, so it counts its turns down from a number that no run uses up.
 fn read_all(
+    input: &mut impl Read,
+    rt: &impl Print,
     table: &mut [u32],
     first: &mut [u32],
     second: &mut [u32],
@@ -93,7 +94,7 @@ fn read_all(
     let mut turns = u64::MAX;
     while 0 < turns {
         turns -= 1;
-        match read_some(table, first, second, line, len, out) {
+        match read_some(input, rt, table, first, second, line, len, out) {
             Input::More(n) => {
                 len = n;
             }
@@ -106,20 +107,22 @@ fn read_all(
 }
 
 // Says on standard error what failed.
-fn report(why: Stop) {
+fn report(rt: &impl Eprint, why: Stop) {
     match why {
         Stop::End(_) => {}
-        Stop::Unreadable => say(b"sheet: standard input cannot be read\n"),
-        Stop::Unwritable => say(b"sheet: standard output cannot be written\n"),
+        Stop::Unreadable => say(rt, "sheet: standard input cannot be read"),
+        Stop::Unwritable => say(rt, "sheet: standard output cannot be written"),
     }
 }
 
-fn say(text: &[u8]) {
-    io::write_all(STDERR_FILENO, text);
+// Where standard error takes nothing either there is no one left to tell.
+fn say(rt: &impl Eprint, text: &str) {
+    let _ = rt.eprintln(text);
 }
 
 // Answers the rest at the input's end.
 fn answer_rest(
+    rt: &(impl Print + Eprint),
     table: &mut [u32],
     first: &mut [u32],
     second: &mut [u32],
@@ -130,25 +133,33 @@ fn answer_rest(
     requires { Room first.old out.old }
 {
     let n = turn::finish(table, first, second, line, len, out) as usize;
-    if !io::write_all(STDOUT_FILENO, &out[0..n]) {
-        report(Stop::Unwritable);
+    if rt.write_all(&out[0..n]).is_err() {
+        report(rt, Stop::Unwritable);
     }
 }
 
 // Reads the whole input and prints the responses to its lines, the rest at its end among them.
-fn run(table: &mut [u32], first: &mut [u32], second: &mut [u32], line: &mut [u8], out: &mut [u8])
+fn run(
+    rt: &(impl io::Input + Print + Eprint),
+    table: &mut [u32],
+    first: &mut [u32],
+    second: &mut [u32],
+    line: &mut [u8],
+    out: &mut [u8],
+)
     requires begun { Begun (dialogue (lends table.old first.old second.old) line.old 0) }
     requires room { Room first.old out.old }
 {
-    let why = read_all(table, first, second, line, out);
+    let mut input = rt.reader();
+    let why = read_all(&mut input, rt, table, first, second, line, out);
     if let Stop::End(len) = why {
-        answer_rest(table, first, second, line, len, out);
+        answer_rest(rt, table, first, second, line, len, out);
     } else {
-        report(why);
+        report(rt, why);
     }
 }
 
-fn main() {
+fn main(rt: HostRuntime) {
     let mut table = [0u32; 13184];
     let mut first = [0u32; 160];
     let mut second = [0u32; 160];
@@ -156,5 +167,5 @@ fn main() {
     // Far more than the longest response, so that the responses to a chunk go out in few writes.
     let mut out = [0u8; 65536];
     register::open::open(&mut table, MARKS);
-    run(&mut table, &mut first, &mut second, &mut line, &mut out);
+    run(&rt, &mut table, &mut first, &mut second, &mut line, &mut out);
 }
