@@ -1,68 +1,80 @@
 #!/usr/bin/env python3
-"""Reads what the must-fail edits left behind: .ci/rounds.py, at the top of the repository, after `rt ci` or `rt must-fail`.
+"""Tries every fault of the must-fail edits: .ci/rounds.py [CRATE/LABEL..], at the top of the repository, after `rt ci`.
 
-rt asks of an edit only that its crate is refused. This reader asks it of every fault, and asks where and by what: it reads each crates/NAME/must-fail/LABEL.edit
-beside the log that rt left in target/must-fail/NAME/LABEL/.log.
+rt asks of an edit only that its crate is refused. This reader asks it of every fault, and asks where and by what: it puts each crates/NAME/must-fail/LABEL.edit
+into a copy of the crates below target/rounds/, checks the crate there, and reads what `rt check` says.
 
 A round is an edit with several faults. Each is
 
     # The wrong register that it makes.
-    at: proofs/FUNCTION/Proof.antt
+    at: proofs/FUNCTION/Answers.antt
     file: src/FILE.rt
     old: ..
     new: ..
 
 with as many pairs of old and new as it needs. Its place, the `at:` line (rt passes over it), is a file of proofs/ that must be refused by an error of its own: the
-walk of the function that the fault is in, or the law that a changed definition breaks. Behind the file may stand the name of the need or law that must be refused, as
-`at: proofs/FUNCTION/Proof.antt returns-2`: so two faults of one function stand in one round. Otherwise no two faults of a round share a place. A function that is
-proved without a file has its place in the file that rt asks for when it is not.
+answers of the function that the fault is in, or the law that a changed definition breaks. Behind the file may stand the name of the goal or law that must be
+refused, as `at: proofs/FUNCTION/Answers.antt returns-then-x`: so two faults of one function stand in one round. Otherwise no two faults of a round share a place.
+A function that is proved without a file has its place in the file that rt asks for when it is not.
 
 An edit without any `at:` line is one fault, and an error of its own in any file will do.
 
 An error is no fault's own where it only says that something else was refused (`was not admitted`), or that the proof no longer fits the edited code: it names a
-need that is not there (`can be named from here`), or goes a way that is not there (`has no field`, `expected a type`). Then nothing is shown to be false.
+goal that is not there (`can be named from here`), or goes a way that is not there (`has no field`, `expected a type`). Then nothing is shown to be false. And rt
+tries no tactic at a function that calls one which is not proved, so a fault that its round does not show is tried once more by itself.
 
 Prints a line for each fault and last 'N passed, M failed'; the exit status is 0 only where M is 0.
 """
 import collections
+import concurrent.futures
+import os
 import pathlib
+import queue
 import re
+import shutil
+import subprocess
 import sys
 
-NOT_ITS_OWN = ('was not admitted', 'can be named from here', 'has no field', 'expected a type')
+NOT_ITS_OWN = ('was not admitted', 'was rejected', 'can be named from here', 'has no field', 'expected a type', 'is not in scope')
 REFUSED = re.compile(r'^logic=not-proved', re.M)
-ERROR = re.compile(r'^(\S+):\d+:\d+: error: (?:`([^`]*)`: )?(.*)$', re.M)
-WITHOUT_FILE = re.compile(r'^fn \S+: no proof: expected `[^`]*` in (\S+); `search` does not close `([^`]*)`', re.M)
+ERROR = re.compile(r'^(?:\./)?(\S+):\d+:\d+: error: (?:`([^`]*)`: )?(.*)$', re.M)
+WITHOUT_FILE = re.compile(r'^fn \S+: no proof: expected answers in (?:\./)?(\S+); `search` did not prove (.*)$', re.M)
+ROOM = pathlib.Path('target/rounds')
 
-Fault = collections.namedtuple('Fault', 'says place pairs')
+Fault = collections.namedtuple('Fault', 'says place pairs')  # pairs of (file, old, new)
 
 
 def faults_of(edit):
     """The faults of an edit's text, in order: what each says of itself, its place ('' where it has no `at:` line), and its pairs of old and new."""
-    faults = [Fault('', '', 0)]
+    faults = [Fault('', '', ())]
+    file = old = ''
     for line in edit.splitlines():
         says, place, pairs = faults[-1]
         if line.startswith(('# ', 'at: ')) and pairs:  # what stands before its pairs: the next fault begins
-            faults.append(Fault('', '', 0))
+            faults.append(Fault('', '', ()))
             says, place, pairs = faults[-1]
         if line.startswith('# '):
             faults[-1] = Fault((says + ' ' + line[2:]).strip(), place, pairs)
         elif line.startswith('at: '):
             faults[-1] = Fault(says, (place + ' ' + line[4:]).strip(), pairs)
+        elif line.startswith('file: '):
+            file = line[6:].strip()
+        elif line.startswith('old: '):
+            old = line[5:]
         elif line.startswith('new:'):
-            faults[-1] = Fault(says, place, pairs + 1)
+            faults[-1] = Fault(says, place, pairs + ((file, old, line[4:].removeprefix(' ')),))
     return faults
 
 
-def refused_places(log, room):
-    """The files of the crate that the prover refused by an error of their own, each by itself and with each need that was refused."""
+def refused_places(log):
+    """The files of the crate that the prover refused by an error of their own, each by itself and with each goal that was refused."""
     places = set()
     log = re.sub(r'\n  +', ' ', log)  # the prover breaks long lines
-    own = [(file, need) for file, need, what in ERROR.findall(log) if not any(words in what for words in NOT_ITS_OWN)]
-    for file, need in own + WITHOUT_FILE.findall(log):
-        if file.startswith(room + '/'):
-            file = file[len(room) + 1:]
-            places.update((file, file + ' ' + need))
+    own = [(file, goal) for file, goal, what in ERROR.findall(log) if not any(words in what for words in NOT_ITS_OWN)]
+    for file, goals in WITHOUT_FILE.findall(log):
+        own.extend((file, goal) for goal in re.findall(r'`([^`]*)`', goals))
+    for file, goal in own:
+        places.update((file, file + ' ' + goal))
     return places
 
 
@@ -86,26 +98,84 @@ def amiss(fault, faults, refused):
     return '' if fault.place in refused else 'no error of its own at %s' % fault.place
 
 
-def read(path):
-    """Prints a line for each fault of the edit; gives how many pass and how many fail."""
+def copy_crates(to):
+    """The crates as they stand, without what rt made of them; what a run before kept there stays."""
+    for part in ('crates.txt', 'HANDLES'):
+        if os.path.isfile(part):
+            shutil.copy2(part, to)
+    for folder, folders, files in os.walk('crates'):
+        if 'out' in folders:
+            folders.remove('out')
+        there = to / folder
+        there.mkdir(parents=True, exist_ok=True)
+        for name in os.listdir(there):
+            if name != 'out' and name not in folders and name not in files:
+                (shutil.rmtree if (there / name).is_dir() else os.remove)(there / name)
+        for name in files:
+            text = pathlib.Path(folder, name).read_bytes()
+            if not (there / name).is_file() or (there / name).read_bytes() != text:
+                (there / name).write_bytes(text)
+
+
+def check(room, crate, faults):
+    """Checks the crate in that copy with these faults in it, and gives what is refused there; None where a fault cannot be put in."""
+    home, texts = room / 'crates' / crate, {}
+    for file, old, new in (pair for fault in faults for pair in fault.pairs):
+        was = texts.setdefault(file, (home / file).read_text(encoding='utf8'))
+        if was.count(old) != 1:
+            return None
+        texts[file] = was.replace(old, new)
+    own = {file: (home / file).read_bytes() for file in texts}
+    try:
+        for file, text in texts.items():
+            (home / file).write_text(text, encoding='utf8')
+        ran = subprocess.run(['rt', 'check'], cwd=home, stdin=subprocess.DEVNULL, stdout=subprocess.PIPE, stderr=subprocess.STDOUT, text=True, errors='replace')
+    finally:
+        for file, text in own.items():
+            (home / file).write_bytes(text)
+    label = '_'.join([crate] + re.findall(r'\w+', faults[0].says)[:8]) + ('_alone' if len(faults) == 1 else '')
+    (ROOM / (label + '.log')).write_text(ran.stdout, encoding='utf8')
+    return refused_places(ran.stdout) if REFUSED.search(ran.stdout) else set()
+
+
+def read(path, rooms):
+    """Tries the faults of the edit; gives a line for each, and how many pass and how many fail."""
     crate, label = path.parts[1], path.stem
-    room = pathlib.Path('target/must-fail', crate, label).resolve()
-    log = (room / '.log').read_text(encoding='utf8', errors='replace') if (room / '.log').is_file() else ''
     faults = faults_of(path.read_text(encoding='utf8'))
-    refused = refused_places(log, str(room)) if REFUSED.search(log) else set()
-    failed = 0
-    for fault in faults:
-        why = amiss(fault, faults, refused) if log else 'there is no log of it'
-        failed += why != ''
-        print('%s %s/%s: %s%s' % ('FAILED' if why else 'ok', crate, label, fault.says, ' (%s)' % why if why else ''))
-    return len(faults) - failed, failed
+    room = rooms.get()
+    try:
+        refused = check(room, crate, faults)
+        lines, failed = [], 0
+        for fault in faults:
+            why = 'it cannot be put in' if refused is None else amiss(fault, faults, refused)
+            alone = ''
+            if why.startswith('no error of its own') and len(faults) > 1:
+                why, alone = amiss(fault, faults, check(room, crate, [fault]) or set()), ', by itself'
+            failed += why != ''
+            lines.append('%s %s/%s%s: %s%s' % ('FAILED' if why else 'ok', crate, label, alone, fault.says, ' (%s)' % why if why else ''))
+    finally:
+        rooms.put(room)
+    return lines, len(faults) - failed, failed
 
 
 def main():
-    counts = [read(path) for path in sorted(pathlib.Path('crates').glob('*/must-fail/*.edit'))]
-    passed, failed = sum(good for good, _ in counts), sum(bad for _, bad in counts)
+    jobs = max(1, min(4, os.cpu_count() or 1))
+    rooms = queue.Queue()
+    for number in range(jobs):
+        room = ROOM / str(number)
+        room.mkdir(parents=True, exist_ok=True)
+        copy_crates(room)
+        rooms.put(room.resolve())
+    paths = sorted(pathlib.Path('crates').glob('*/must-fail/*.edit'))
+    if sys.argv[1:]:
+        paths = [path for path in paths if '%s/%s' % (path.parts[1], path.stem) in sys.argv[1:]]
+    passed = failed = 0
+    with concurrent.futures.ThreadPoolExecutor(jobs) as pool:
+        for lines, good, bad in pool.map(lambda path: read(path, rooms), paths):
+            print('\n'.join(lines), flush=True)
+            passed, failed = passed + good, failed + bad
     print('%d passed, %d failed' % (passed, failed))
-    return 0 if counts and failed == 0 else 1
+    return 0 if paths and failed == 0 else 1
 
 
 if __name__ == '__main__':

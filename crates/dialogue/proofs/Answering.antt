@@ -1,8 +1,8 @@
 -- From what a call performs and what was written of its answer to the response. Assumes nothing.
 use Prim.Native.Nat.{ℕ, ◌+◌, ◌*◌, ◌≤◌}
-use mathlib.Core.Path.{◌≡◌, refl, sym, ap, ◌∙◌}
+use mathlib.Core.Path.{◌≡◌, refl, ap}
 use mathlib.Core.Logic.{◌≢◌}
-use mathlib.Core.List.{List, [], ◌∷◌, ◌++◌}
+use mathlib.Core.List.{List, [], ◌∷◌}
 use mathlib.Core.Option.{none, some}
 use native.Mathlib.Omega.{arith}
 use lib.Dec.{eqb}
@@ -18,7 +18,7 @@ use Rattle.sorting.proofs.Words.{list_marks-length}
 use Rattle.register.specs.Answers.{ListFigures, in_list, list_given}
 use Rattle.register.specs.Performs.{Lent, early, Later, short, lists, unsound, Performs}
 use Rattle.lines.specs.Commands.{Command, insert, strike, count, list, letter}
-use Rattle.lines.specs.Responses.{first_line, answer_line, mark_lines, figures, marks_after, printed, not_a_line}
+use Rattle.lines.specs.Responses.{first_line, mark_lines, figures, marks_after, not_a_line}
 use Rattle.lines.specs.Writing.{Wrote}
 use Rattle.lines.proofs.Responses.{printed-first, printed-accepted}
 use Rattle.lines.proofs.Writing.{wrote_then, wrote-front}

@@ -1,15 +1,14 @@
 -- The whole program: from an accepted open on, whatever the input and however it is read, all that a dialogue prints is what the model prints for the
 -- input's lines. Assumes nothing.
-use Prim.Native.Nat.{ℕ, ◌≤◌}
-use mathlib.Core.Path.{◌≡◌, refl, sym, ap, ◌∙◌}
+use Prim.Native.Nat.{ℕ}
+use mathlib.Core.Path.{◌≡◌, refl, ap, ◌∙◌}
 use mathlib.Core.Logic.{◌≢◌}
 use mathlib.Core.List.{List, [], ◌∷◌, ◌++◌, append-nil, append_assoc}
 use mathlib.Core.Option.{Option, none, some}
 use native.Mathlib.Omega.{arith}
-use lib.Dec.{eqb}
-use lib.ListN.{length, take, length-take}
+use lib.ListN.{length, length-take}
 use borrow.Author.Tests.{eq-eqb, ne_eqb}
-use Rattle.model.specs.History.{Call, open_for, State, Answer, answer, next}
+use Rattle.model.specs.History.{open_for, State, Answer, answer, next}
 use Rattle.model.specs.Sizes.{capacity_outside, D, rise_d, W}
 use Rattle.model.specs.Refusals.{open_table}
 use Rattle.model.proofs.TwoFold.{open-agrees}
@@ -17,15 +16,15 @@ use Rattle.twofold_layout.specs.Sound.{Holding}
 use Rattle.table.specs.Header.{capacity_of}
 use Rattle.register.proofs.Stands.{Stands, call-follows}
 use Rattle.register.proofs.History.{open-later}
-use Rattle.register.specs.Performs.{Lent, lends, alone, own, early, Performs}
+use Rattle.register.specs.Performs.{Lent, alone, own, early, Performs}
 use Rattle.lines.specs.Commands.{Command, insert, strike, count, list}
-use Rattle.lines.specs.Input.{TakenAs, last_line, lines_after, lines_of, longest_line, Gathered, within, beyond}
+use Rattle.lines.specs.Input.{TakenAs, last_line, lines_after, lines_of, Gathered, within, beyond}
 use Rattle.lines.specs.Responses.{printed, not_a_line}
 use Rattle.lines.specs.Reading.{read♯}
 use Rattle.lines.proofs.Reading.{reads-line}
 use Rattle.lines.proofs.Gathering.{taken-reads, gathered_none, gathered-more, gathered-room, taken-once}
 use Rattle.dialogue.specs.Responding.{call_of, lent_to, Performed, Does, performed, turned_away, Responds}
-use Rattle.dialogue.specs.Dialogue.{Dialogue, dialogue, Fed, ends, goes_on, Ended, rest, no_rest, FedAll, none as no_byte, then, Runs}
+use Rattle.dialogue.specs.Dialogue.{Dialogue, ends, goes_on, Ended, rest, no_rest, FedAll, none as no_byte, then, Runs}
 use Rattle.dialogue.specs.Program.{Prints, nothing, command, other, marks, table_words, list_words, opened, Begun}
 
 lent-table : (c : Command) (w : Lent) → (lent_to c w).table ≡ w.table

@@ -1,6 +1,6 @@
 -- A cell against a side of a box, by what the tests of its ends gave: for x and y alike, and whichever ends a side has. `reached` says that the cell's least
 -- coordinate has reached the low end, `short` that its greatest has not passed the high one. Assumes nothing.
-use mathlib.Core.Path.{◌≡◌, refl, sym}
+use mathlib.Core.Path.{◌≡◌, refl}
 use mathlib.Core.Bool.{Bool, true, false, not, ◌&&◌}
 use Rattle.model.proofs.Logic.{clash}
 

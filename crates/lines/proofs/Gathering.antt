@@ -1,9 +1,9 @@
 -- Lines gathered byte by byte are the lines of the input. Assumes nothing.
-use Prim.Native.Nat.{ℕ, suc, ◌+◌, ◌≤◌, ◌<◌}
-use mathlib.Core.Path.{◌≡◌, refl, sym, ap, ◌∙◌}
+use Prim.Native.Nat.{ℕ, ◌+◌, ◌≤◌, ◌<◌}
+use mathlib.Core.Path.{◌≡◌, refl, sym, ap}
 use mathlib.Core.Logic.{◌↔◌}
 use mathlib.Core.List.{List, [], ◌∷◌, ◌++◌}
-use mathlib.Core.Option.{Option, none, some}
+use mathlib.Core.Option.{Option, none}
 use native.Mathlib.Omega.{arith}
 use native.Mathlib.Numerals.{add-one}
 use lib.Dec.{leb}
@@ -12,7 +12,7 @@ use lib.Seq.{take-suc-set}
 use borrow.Author.Tests.{leb-true, leb-false, le-leb}
 use Rattle.model.proofs.Logic.{by_cases}
 use Rattle.table.specs.After.{after}
-use Rattle.lines.specs.Commands.{Command, written, Words, Reads, command, not_one}
+use Rattle.lines.specs.Commands.{Command, Reads, command, not_one}
 use Rattle.lines.specs.Input.{TakenAs, short, long, Gathered, within, beyond, gather}
 use Rattle.lines.proofs.Reading.{reads-once}
 use Rattle.lines.proofs.Responses.{written-short}

@@ -1,21 +1,20 @@
 -- The mirror of the reading gives just the command of which a line is the written form. Assumes nothing.
-use Prim.Native.Nat.{ℕ, zero, suc, ◌+◌, ◌-◌, ◌*◌, ◌/◌, ◌%◌, ◌≤◌, ◌<◌}
+use Prim.Native.Nat.{ℕ, zero, suc, ◌+◌, ◌-◌, ◌*◌, ◌/◌, ◌%◌, ◌<◌}
 use mathlib.Core.Path.{◌≡◌, refl, sym, ap, ◌∙◌}
 use mathlib.Core.Bool.{Bool, true, false}
-use mathlib.Core.List.{List, [], ◌∷◌, ◌++◌, append-nil, append_assoc}
+use mathlib.Core.List.{List, [], ◌∷◌, ◌++◌}
 use mathlib.Core.Option.{Option, none, some}
 use native.Mathlib.Omega.{arith}
 use lib.Dec.{leb, eqb}
-use lib.ListN.{get_or, drop}
+use lib.ListN.{get_or}
 use lib.Seq.{append_snoc}
-use borrow.Author.Tests.{leb-true, le-leb, lt-leb, eqb-true, eqb-false, eq-eqb, ne_eqb}
+use borrow.Author.Tests.{leb-true, le-leb, eqb-true, eqb-false, ne_eqb}
 use Rattle.model.specs.Lists.{if◌then◌else◌}
 use Rattle.model.specs.Laws.{All, nil, cons}
 use Rattle.model.proofs.Logic.{by_cases, and_left, and_right}
 use Rattle.lines.specs.Text.{digits, fields}
 use Rattle.lines.specs.Numerals.{Digit, Word}
 use Rattle.lines.specs.Commands.{Command, insert, strike, count, list, written, Words, Reads, command, not_one}
-use Rattle.lines.specs.Reading
 use Rattle.lines.specs.Reading.{
   Number,
   number,

@@ -1,6 +1,7 @@
 // The C interface of the register: every exported function, thin over the crates below (include/markregister.h). Each contract is the call's own: what it
 // returns and the lent numbers it leaves are the answer, 0 where there is no figure to give.
 #![tactic(auto)]
+
 ghost use Rattle.std.specs.Prelude.{◌≡◌, length};
 ghost use Rattle.model.specs.Sheet.{mark, box};
 ghost use Rattle.model.specs.History as history;

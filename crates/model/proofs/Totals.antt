@@ -1,7 +1,7 @@
 -- What the marks of a list come to under an operation with laws: it goes by the marks and not by their order. Counting is one such operation. Assumes
 -- nothing.
 use Prim.Native.Nat.{ℕ, ◌+◌, ◌*◌, max, ◌≤◌, ◌<◌}
-use mathlib.Core.Path.{◌≡◌, refl, sym, ap, ap₂, ◌∙◌}
+use mathlib.Core.Path.{◌≡◌, refl, sym, ap, ◌∙◌}
 use mathlib.Core.Bool.{Bool, true, false}
 use mathlib.Core.List.{List, [], ◌∷◌, ◌++◌}
 use native.Mathlib.Omega.{arith}
@@ -10,7 +10,7 @@ use lib.Dec.{eqb}
 use lib.ListN.{length}
 use borrow.Author.Tests.{eqb-true, eq-eqb}
 use Rattle.model.specs.Lists.{indicator, count_if, remove_first}
-use Rattle.model.specs.Totals.{Operation, total, figure_if, total_if, counting}
+use Rattle.model.specs.Totals.{Operation, total, total_if, counting}
 use Rattle.model.specs.Laws.{SameBag, OperationLaws, All, nil, cons}
 use Rattle.model.proofs.Logic.{by_cases}
 

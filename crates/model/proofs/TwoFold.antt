@@ -10,7 +10,7 @@ use lib.ListN.{length}
 use Rattle.model.specs.Lists.{count_if, filter_by, remove_first, insert_sorted, sort}
 use Rattle.model.specs.Totals.{Operation, total_if, counting}
 use Rattle.model.specs.Register.{innermost}
-use Rattle.model.specs.Tree.{marks, marks_of, insert_leaf, strike_leaf}
+use Rattle.model.specs.Tree.{marks_of, insert_leaf, strike_leaf}
 use Rattle.model.specs.Fold.{rebalance_fold, strike_rebuilt}
 use Rattle.model.specs.Sizes.{D}
 use Rattle.model.specs.Sheet.{Mark, Box, summing, worst, below_x, same, holds, sheet, along_x, along_y, Auxiliary, auxiliary, Main, main}

@@ -1,11 +1,11 @@
 -- Where the records of a tree may stand, which words a change of some of them leaves alone, and a record written and read again. Assumes nothing.
-use Prim.Native.Nat.{ℕ, zero, suc, ◌+◌, ◌*◌, ◌-◌, ◌≤◌, ◌<◌}
+use Prim.Native.Nat.{ℕ, zero, suc, ◌+◌, ◌-◌, ◌≤◌, ◌<◌}
 use mathlib.Core.Path.{◌≡◌, refl, sym, ap, subst, ◌∙◌}
 use mathlib.Core.List.{List, [], ◌∷◌, ◌++◌}
 use mathlib.Core.Logic.{◌⊎◌, inl, inr}
 use native.Mathlib.Omega.{arith}
 use lib.ListN.{length, get_or, set, length-set}
-use lib.Seq.{sets, length-sets, get_or-set_same}
+use lib.Seq.{sets, get_or-set_same}
 use Rattle.table.specs.Layout.{mark_width, arm_width, record_width, slot_place, main_place, run_place, record_place, level_end}
 use Rattle.table.specs.Marks.{slot_mark}
 use Rattle.nodes.specs.Arms.{Arm, arm_words, arm_at, put_arm, arms, record_at, put_record}

@@ -2,5 +2,6 @@
 // leaves each in the order of y; they are merged by y through run B, and the auxiliary tree of this depth is built of them. The caller knows that the runs are
 // there.
 #![tactic(auto)]
+
 pub mod build;
 mod merge;

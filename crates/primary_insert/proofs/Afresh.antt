@@ -15,7 +15,7 @@ use Rattle.model.proofs.Tree.{weight-pos, weight-marks, marks-pos, build-marks}
 use Rattle.table.specs.Layout.{arm_width, main_place, level_place}
 use Rattle.table.specs.Limits.{deepest, no_slot}
 use Rattle.nodes.specs.Arms.{put_arm}
-use Rattle.nodes.specs.Holds.{number, arm_of, times, Held}
+use Rattle.nodes.specs.Holds.{number, times, Held}
 use Rattle.table.specs.After.{After, after}
 use Rattle.nodes.proofs.Held.{Names, names-marks}
 use Rattle.nodes.proofs.Spots.{LeavesAt}

@@ -7,10 +7,10 @@ use mathlib.Core.List.{List, ◌∷◌, ◌++◌}
 use native.Mathlib.Omega.{arith}
 use lib.Dec.{eqb}
 use lib.ListN.{length}
-use borrow.Author.Tests.{eq-eqb, ne_eqb, lt-leb, le-ltb}
+use borrow.Author.Tests.{eq-eqb, ne_eqb, lt-leb}
 use Rattle.model.specs.Lists.{indicator, count_if}
 use Rattle.model.specs.Sizes.{D, W}
-use Rattle.model.specs.Sheet.{Mark, below_x, sheet, along_x, along_y}
+use Rattle.model.specs.Sheet.{Mark, below_x, sheet, along_x}
 use Rattle.model.specs.Slots.{slot_space, slot_axis}
 use Rattle.model.specs.Tree.{leaf, node, weight, depth, marks, least, evenly, insert_leaf, rebalance, rebuilt}
 use Rattle.model.proofs.Logic.{by_cases}
@@ -19,7 +19,7 @@ use Rattle.model.proofs.Sizes.{D-rises}
 use Rattle.model.proofs.Depth.{balanced-depth}
 use Rattle.model.proofs.Tree.{weight-pos, rebalance-marks, rebalance-weight, rebalance-balanced}
 use Rattle.model.proofs.Rebalance.{rebalance-left, rebalance-right, rebuilt-left, rebuilt-right}
-use Rattle.table.specs.Layout.{arm_width, record_width, main_place, auxiliary_place, root_place, level_place, record_place}
+use Rattle.table.specs.Layout.{arm_width, record_width, main_place, root_place, level_place}
 use Rattle.table.specs.Limits.{deepest, damaged}
 use Rattle.table.specs.Marks.{slot_mark}
 use Rattle.nodes.specs.Arms.{Arm, Record, arms, Way, way_of, grown_arm, arm_at, put_arm, child_at}

@@ -24,7 +24,7 @@ use Rattle.nodes.proofs.Spots.{LeavesAt}
 use Rattle.twofold_layout.specs.Rules.{SlotAuxiliary, SlotMain, AuxiliaryOf}
 use Rattle.twofold_layout.specs.TwoFold.{HoldsAuxiliary}
 use Rattle.twofold_layout.proofs.Frames.{TwoFrame, TwoSpot, two_frame-at, main-frame_at, level-frame_at}
-use Rattle.twofold_layout.proofs.Kept.{clear_none, clear-spot, kept_arm}
+use Rattle.twofold_layout.proofs.Kept.{clear_none, kept_arm}
 use Rattle.twofold_layout.proofs.Over.{TwoLeavesAt, two-main}
 use Rattle.secondary_update.specs.Insert.{split♯, insert_node, insert_arm, insert♯, auxiliary_insert♯}
 use Rattle.secondary_update.proofs.Inserting.{leaf-held}

@@ -1,5 +1,5 @@
 -- The mirror of the insertion into the two-fold tree. Assumes nothing.
-use Rattle.std.specs.Prelude.{ℕ, zero, suc, ◌+◌, ◌*◌, ◌-◌, ◌/◌, ◌%◌, ◌≤◌, ◌<◌, ◌^◌, ◌≡◌, refl, Bool, true, false, not, List, leb, eqb, length}
+use Rattle.std.specs.Prelude.{ℕ, zero, suc, ◌+◌, ◌-◌, ◌/◌, ◌%◌, ◌≤◌, ◌<◌, ◌^◌, ◌≡◌, refl, true, false, not, List, leb, eqb, length}
 use Rattle.std.proofs.Common.{arith}
 use Rattle.model.specs.Lists.{if◌then◌else◌}
 use Rattle.model.specs.Sheet.{Mark, below_x, along_x}

@@ -9,18 +9,18 @@ use lib.ListN.{length, get_or}
 use lib.Dec.{leb}
 use borrow.Author.Tests.{le-leb, lt-leb, leb-true, le-ltb, eq-eqb, ne_eqb}
 use Rattle.model.specs.Totals.{counting}
-use Rattle.model.specs.Register.{Found, innermost}
-use Rattle.model.specs.Tree.{Tree, leaf, node, weight, depth, marks, least}
+use Rattle.model.specs.Register.{Found}
+use Rattle.model.specs.Tree.{leaf, node, weight, depth, marks, least}
 use Rattle.model.specs.Search.{inside, clear, search}
 use Rattle.model.specs.Sizes.{D, W}
-use Rattle.model.specs.Sheet.{Mark, Box, box, box_crossed, sheet, holds, along_x, along_y}
+use Rattle.model.specs.Sheet.{Mark, Box, box, box_crossed, sheet, holds, along_x}
 use Rattle.model.specs.Slots.{slot_space, slot_axis, slot_operation}
 use Rattle.model.specs.Laws.{AxisLaws, All, cons, Sorted}
 use Rattle.model.proofs.Logic.{by_cases}
 use Rattle.model.proofs.Lists.{all_left, all_right, all_map, all_alike, count_if-length}
 use Rattle.model.proofs.Totals.{counting-laws, total-count}
 use Rattle.model.proofs.Sorted.{sorted-left, sorted-right}
-use Rattle.model.proofs.Orders.{along_x-laws, along_y-laws, along_x-straight, along_y-straight}
+use Rattle.model.proofs.Orders.{along_x-laws, along_x-straight, along_y-straight}
 use Rattle.model.proofs.Slots.{slot_operation-laws, slot_axis-laws}
 use Rattle.model.proofs.Tree.{weight-pos, weight-marks}
 use Rattle.table.specs.Layout.{capacity_place, auxiliary_place, root_place, level_place, level_end}

@@ -2,6 +2,7 @@
 // have every slot of the capacity they are given. Where the words hold no tree, every search ends all the same, and says so by a slot or a tally that no
 // sound table gives.
 #![tactic(auto)]
+
 pub mod count;
 pub mod find;
 pub mod list;

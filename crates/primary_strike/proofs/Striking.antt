@@ -7,7 +7,6 @@ use native.Mathlib.Omega.{arith}
 use lib.Dec.{eqb}
 use lib.ListN.{length}
 use borrow.Author.Tests.{lt-leb, eq-eqb, ne_eqb}
-use Rattle.model.specs.Lists.{if◌then◌else◌}
 use Rattle.model.specs.Axis.{Axis}
 use Rattle.model.specs.Register.{Register}
 use Rattle.model.specs.Sizes.{D, W}

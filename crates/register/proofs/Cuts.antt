@@ -1,7 +1,7 @@
 -- Panes that share a cut (R-2), by what the call returns: on a sound table the counts of a box's two parts add up to the count of the box, and so do those
 -- of panes laid out over it; and an empty box is accepted and gives 0 with the written search's visits. Of the counts nothing is known but that each
 -- does what its contract says. Assumes nothing.
-use Prim.Native.Nat.{ℕ, ◌+◌, max}
+use Prim.Native.Nat.{◌+◌, max}
 use mathlib.Core.Path.{◌≡◌, fun_ext, ◌∙◌}
 use mathlib.Core.Logic.{◌⊎◌}
 use mathlib.Core.Bool.{false}

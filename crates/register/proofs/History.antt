@@ -1,8 +1,7 @@
 -- THE HISTORY: every run of calls gives, call by call, what the plain list and the model's tree give. A run is a chain of tables linked by `Performs`, the
 -- definition that the contract of each call cites; nothing else is known of the calls. Assumes nothing.
-use Prim.Native.Nat.{ℕ, ◌*◌, ◌≤◌}
+use Prim.Native.Nat.{ℕ}
 use mathlib.Core.Path.{◌≡◌, refl, sym, ap, subst, ◌∙◌}
-use mathlib.Core.Logic.{◌≢◌}
 use mathlib.Core.List.{List, [], ◌∷◌}
 use native.Mathlib.Omega.{arith}
 use lib.Dec.{eqb, ltb}

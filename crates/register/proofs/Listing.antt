@@ -1,16 +1,16 @@
 -- List: on a sound table the answer is the plain list's, sorted and where the passes leave it; on any table the words past the marks listed stay.
 -- Assumes nothing.
-use Prim.Native.Nat.{ℕ, ◌+◌, ◌*◌, ◌/◌, ◌%◌, ◌≤◌, ◌<◌}
+use Prim.Native.Nat.{ℕ, ◌+◌, ◌*◌, ◌%◌, ◌≤◌, ◌<◌}
 use mathlib.Core.Path.{◌≡◌, refl, sym, ap, subst, ◌∙◌}
 use mathlib.Core.Logic.{◌≢◌, ◌⊎◌, inl, inr}
-use mathlib.Core.Bool.{Bool, true, false, ◌||◌}
-use mathlib.Core.List.{List, [], ◌∷◌, ◌++◌, append-nil}
+use mathlib.Core.Bool.{true, false}
+use mathlib.Core.List.{List, ◌++◌, append-nil}
 use native.Mathlib.Omega.{arith}
 use lib.Dec.{eqb, ltb}
 use lib.ListN.{length, take, drop, length-append, drop_of_length-le}
-use lib.Seq.{sets, sets-eq, take_at, drop_at, take_all, length-take-le}
-use borrow.Author.Tests.{eqb-true, eqb-false, ne_eqb, lt-ltb, le-ltb}
-use Rattle.model.specs.Lists.{if◌then◌else◌, count_if, filter_by}
+use lib.Seq.{sets-eq, take_at, drop_at, length-take-le}
+use borrow.Author.Tests.{ne_eqb, lt-ltb, le-ltb}
+use Rattle.model.specs.Lists.{count_if, filter_by}
 use Rattle.model.specs.Tree.{marks_of}
 use Rattle.model.specs.Sizes.{passes}
 use Rattle.model.specs.Sheet.{Mark, Box, Main, box_crossed, below_x, holds, main}
@@ -24,13 +24,11 @@ use Rattle.table.specs.Layout.{list_place}
 use Rattle.table.specs.Figures.{found_in, visits_in}
 use Rattle.table.proofs.Tallies.{pack-visits}
 use Rattle.table.specs.Marks.{list_marks, mark_words}
-use Rattle.table.specs.Tally.{pack}
 use Rattle.table.specs.Limits.{most_visits}
-use Rattle.table.specs.After.{after}
 use Rattle.table.proofs.Lists.{mark_words-length}
 use Rattle.sizes.specs.Sizes.{visits_within}
-use Rattle.twofold_layout.specs.Sound.{Holding, SoundTable}
-use Rattle.table.specs.Header.{capacity_of, live_of, own_words, own_visits}
+use Rattle.twofold_layout.specs.Sound.{Holding}
+use Rattle.table.specs.Header.{capacity_of, own_words, own_visits}
 use Rattle.primary_search.specs.Count.{main_count♯}
 use Rattle.primary_search.specs.List.{main_list♯}
 use Rattle.whole_table.proofs.Searching as searching
@@ -40,10 +38,10 @@ use Rattle.sorting.proofs.Stable.{stable_sort-distinct}
 use Rattle.sorting.proofs.Words.{list_marks-length, list_marks-words, words-list_marks}
 use Rattle.sorting.proofs.Sorting.{list_marks-take}
 use Rattle.table.proofs.Own.{own-visits-few}
-use Rattle.register.specs.Answers.{ListFigures, list_refused, in_list, marks_in, list_given}
+use Rattle.register.specs.Answers.{ListFigures, in_list, list_given}
 use Rattle.register.specs.Performs.{lends, early, own, CountsTo, Later, unsound, LeavesLists, state_of, Performs}
 use Rattle.register.specs.Performs as performs
-use Rattle.register.specs.Mirrors.{ListedOwn, ListsOwn, lost, short, lists, Lists, not_table, crossed, on_own}
+use Rattle.register.specs.Mirrors.{ListsOwn, lost, short, lists, Lists, not_table, crossed, on_own}
 use Rattle.register.proofs.Own.{own-none, own-some, own_is, sound-table}
 use Rattle.register.proofs.Performing.{performs-kept, refused-early, refused-later}
 use Rattle.register.proofs.Reading.{found-sound, own-limit, counts-to, damage-unsound}

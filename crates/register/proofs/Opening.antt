@@ -1,8 +1,8 @@
 -- Open: whatever the words were, an accepted open leaves an empty table of the capacity. Assumes nothing.
 use Prim.Native.Nat.{ℕ, ◌+◌, ◌≤◌, ◌<◌}
-use mathlib.Core.Path.{◌≡◌, refl, sym, ap, subst, ◌∙◌}
+use mathlib.Core.Path.{◌≡◌, refl, sym, subst, ◌∙◌}
 use mathlib.Core.Logic.{◌⊎◌}
-use mathlib.Core.Bool.{true, false}
+use mathlib.Core.Bool.{false}
 use mathlib.Core.List.{List, [], ◌++◌}
 use mathlib.Core.Option.{none}
 use native.Mathlib.Omega.{arith}
@@ -11,12 +11,11 @@ use lib.ListN.{length, get_or, take, drop, length-append, length-drop, get_or-ap
 use lib.Seq.{drop_at, get_or-take, length-take-le}
 use borrow.Author.Tests.{ltb-false, le-ltb}
 use Rattle.model.specs.Sizes.{W, capacity_outside}
-use Rattle.model.specs.Sheet.{Main}
 use Rattle.model.specs.Refusals.{refused, open_table}
 use Rattle.model.specs.History.{open_for, Answer, refusal, updated}
 use Rattle.model.proofs.Logic.{by_cases, clash}
 use Rattle.table.specs.Layout.{arm_width, root_place, used_place, run_place}
-use Rattle.table.specs.After.{After, after}
+use Rattle.table.specs.After.{After}
 use Rattle.twofold_layout.specs.Sound.{Holding}
 use Rattle.table.specs.Header.{capacity_of}
 use Rattle.whole_table.specs.Empty.{empty♯}

@@ -1,6 +1,6 @@
 -- The table's own words, W(C) of those lent: where they are, and what stands in them and beyond. Assumes nothing.
-use Prim.Native.Nat.{ℕ, ◌+◌, ◌-◌, ◌≤◌, ◌<◌}
-use mathlib.Core.Path.{◌≡◌, refl, sym, ap, subst, ◌∙◌}
+use Prim.Native.Nat.{ℕ, ◌-◌, ◌≤◌, ◌<◌}
+use mathlib.Core.Path.{◌≡◌, refl, sym, ap, ◌∙◌}
 use mathlib.Core.Bool.{true, false}
 use mathlib.Core.List.{List, ◌++◌}
 use native.Mathlib.Omega.{arith}
@@ -8,7 +8,7 @@ use native.Mathlib.Nat.{sub-zero}
 use lib.Dec.{eqb, ltb}
 use lib.ListN.{length, get_or, take, drop, length-take, take-append-drop, get_or-append}
 use lib.Seq.{get_or-take, length-take-le, take_at}
-use borrow.Author.Tests.{eqb-true, eqb-false, eq-eqb, ne_eqb, ltb-false}
+use borrow.Author.Tests.{eqb-true, eqb-false, ltb-false}
 use Rattle.model.specs.Sizes.{W, capacity_outside}
 use Rattle.model.specs.Sheet.{Main}
 use Rattle.model.specs.Refusals.{accepted, refused, open_table}
@@ -16,7 +16,7 @@ use Rattle.model.proofs.Logic.{by_cases}
 use Rattle.model.proofs.Sizes.{capacity-small}
 use Rattle.table.specs.Layout.{open_place, capacity_place, live_place, runs_end}
 use Rattle.nodes.proofs.Levels.{W-words}
-use Rattle.twofold_layout.specs.Sound.{Holding, SoundTable}
+use Rattle.twofold_layout.specs.Sound.{Holding}
 use Rattle.table.specs.Header.{capacity_of, live_of, OfCapacity, not_table, own_words}
 use Rattle.twofold_layout.proofs.Sound.{live-within}
 use Rattle.table.proofs.Own.{own-table, table-own}

@@ -1,13 +1,13 @@
 -- What is done with a table's own words is what the call performs on all that it was lent. Assumes nothing.
-use Prim.Native.Nat.{ℕ, ◌*◌, ◌+◌, ◌≤◌}
+use Prim.Native.Nat.{ℕ}
 use mathlib.Core.Path.{◌≡◌, refl, sym, ap, subst, ◌∙◌}
 use mathlib.Core.Logic.{◌≢◌}
-use mathlib.Core.Bool.{Bool, true, false}
-use mathlib.Core.List.{List, [], ◌∷◌, ◌++◌}
+use mathlib.Core.Bool.{true, false}
+use mathlib.Core.List.{List, [], ◌++◌}
 use native.Mathlib.Omega.{arith}
-use lib.ListN.{length, get_or, take, drop, length-append, length-drop, get_or-append}
+use lib.ListN.{length, get_or, drop, length-append, length-drop, get_or-append}
 use lib.Seq.{drop_at, get_or-take}
-use borrow.Author.Tests.{eqb-true, eqb-false, eq-eqb, ne_eqb}
+use borrow.Author.Tests.{eqb-true, eqb-false, ne_eqb}
 use lib.Dec.{eqb}
 use Rattle.model.specs.Sizes.{W}
 use Rattle.model.specs.Tree.{marks_of}
@@ -16,17 +16,17 @@ use Rattle.model.specs.Refusals.{Outcome, accepted, refused}
 use Rattle.model.specs.History.{Call, State, Answer, refusal, updated, answer, next}
 use Rattle.model.proofs.Logic.{by_cases}
 use Rattle.table.specs.Layout.{open_place}
-use Rattle.table.specs.After.{After, after}
+use Rattle.table.specs.After.{After}
 use Rattle.twofold_layout.specs.Sound.{Holding, SoundTable}
-use Rattle.table.specs.Header.{capacity_of, live_of, not_table, own_words}
+use Rattle.table.specs.Header.{capacity_of, not_table, own_words}
 use Rattle.twofold_layout.specs.Gaps.{Unused}
 use Rattle.whole_table.proofs.Gaps.{unused-within}
 use Rattle.table.proofs.Own.{own-table}
 use Rattle.register.specs.Performs.{Lent, lends, alone, LengthsOf, number_of, early, own, opens_table, updates, Later, unsound}
-use Rattle.register.specs.Performs.{reach, Leaves, unchanged, written, closed}
-use Rattle.register.specs.Performs.{LeavesLists, Starts, state_of, Follows, Spares, Performs}
+use Rattle.register.specs.Performs.{reach, unchanged, written, closed}
+use Rattle.register.specs.Performs.{LeavesLists, Starts, state_of, Spares, Performs}
 use Rattle.register.specs.Mirrors.{within, on_accepted, on_table, update_own}
-use Rattle.register.proofs.Own.{W-header, own-none, own-some, own-capacity, own_is, own-length, own-beyond, sound-table, held-capacity, held-own}
+use Rattle.register.proofs.Own.{W-header, own-none, own-some, own-capacity, own-beyond, sound-table, held-capacity, held-own}
 
 -- a refused step changes nothing
 pub next-refused : (c : Call) (s : State) (n k : ℕ) → n ≢ 0 → refusal n k ≡ answer c s → next c s ≡ s

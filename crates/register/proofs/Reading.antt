@@ -1,6 +1,6 @@
 -- The calls that only read the table: count and check. Assumes nothing.
-use Prim.Native.Nat.{ℕ, ◌+◌, ◌-◌, ◌*◌, ◌/◌, ◌%◌, ◌≤◌, ◌<◌}
-use mathlib.Core.Path.{◌≡◌, refl, sym, ap, ap₂, subst, ◌∙◌}
+use Prim.Native.Nat.{ℕ, ◌-◌, ◌≤◌, ◌<◌}
+use mathlib.Core.Path.{◌≡◌, refl, sym, ap, subst, ◌∙◌}
 use mathlib.Core.Logic.{◌≢◌, ◌⊎◌, inl, inr}
 use mathlib.Core.Bool.{Bool, true, false}
 use mathlib.Core.List.{List, []}
@@ -8,7 +8,7 @@ use native.Mathlib.Omega.{arith}
 use native.Mathlib.Nat.{sub-zero}
 use lib.Dec.{eqb, ltb}
 use lib.ListN.{length, take}
-use borrow.Author.Tests.{eqb-true, eqb-false, ltb-true, ltb-false, le-ltb}
+use borrow.Author.Tests.{eqb-true, eqb-false, ltb-true, ltb-false}
 use Rattle.model.specs.Lists.{if◌then◌else◌, count_if}
 use Rattle.model.specs.Tree.{marks_of}
 use Rattle.model.specs.Sheet.{Box, Main, box_crossed, holds, main}
@@ -21,7 +21,7 @@ use Rattle.model.proofs.Lists.{count_if-length}
 use Rattle.sizes.specs.Sizes.{visits_within}
 use Rattle.table.specs.Figures.{found_in, visits_in}
 use Rattle.twofold_layout.specs.Sound.{Holding, SoundTable}
-use Rattle.table.specs.Header.{capacity_of, live_of, not_table, own_words, own_visits}
+use Rattle.table.specs.Header.{capacity_of, live_of, own_words, own_visits}
 use Rattle.primary_search.specs.Count.{main_count♯}
 use Rattle.whole_table.proofs.Searching.{holding-within, holding-small, count-within, count-found, count-visited, count-sum, count-worst}
 use Rattle.checking.specs.Verdict.{Verdict}
@@ -29,7 +29,7 @@ use Rattle.checking.specs.Verdict as verdict
 use Rattle.table.proofs.Own.{own-most}
 use Rattle.register.specs.Performs.{alone, early, own, sum_by, worst_by, CountsTo, Later, counts, sound, unsound, state_of, Performs}
 use Rattle.register.specs.Mirrors.{or_number, tallied, count_own♯, count♯}
-use Rattle.register.proofs.Own.{own-none, own-some, own-capacity, own-live, own_is, sound-table}
+use Rattle.register.proofs.Own.{own-none, own-some, own-capacity, own_is, sound-table}
 use Rattle.register.proofs.Performing.{no-lists, performs-kept, refused-early, refused-later}
 
 module _ (xs : List ℕ) (b : Box) (fine : box_crossed b ≡ false) (T : Main) (h : Holding (own xs) T) where

@@ -1,16 +1,16 @@
 -- Insertion and strike: what they do with a table's own words, and so what the calls perform. Assumes nothing.
-use Prim.Native.Nat.{ℕ, ◌+◌, ◌≤◌, ◌<◌}
-use mathlib.Core.Path.{◌≡◌, refl, sym, ap, ap₂, subst, ◌∙◌}
+use Prim.Native.Nat.{ℕ, ◌≤◌, ◌<◌}
+use mathlib.Core.Path.{◌≡◌, refl, sym, ap, ap₂, ◌∙◌}
 use mathlib.Core.Logic.{◌≢◌}
 use mathlib.Core.Bool.{Bool, true, false}
 use mathlib.Core.List.{List, [], ◌∷◌}
 use native.Mathlib.Omega.{arith}
-use lib.Dec.{eqb, ltb}
+use lib.Dec.{eqb}
 use lib.ListN.{length, get_or, set}
 use borrow.Author.Tests.{eqb-true, eqb-false, eq-eqb, ne_eqb, ltb-true, ltb-false}
 use Rattle.model.specs.Lists.{if◌then◌else◌, count_if, insert_sorted, remove_first}
 use Rattle.model.specs.Tree.{marks_of}
-use Rattle.model.specs.Sheet.{Mark, Main, mark_outside, grade_outside, same, below_x, along_x, auxiliary, main}
+use Rattle.model.specs.Sheet.{Mark, Main, mark_outside, grade_outside, same, below_x}
 use Rattle.model.specs.Refusals.{enter_mark, name_mark}
 use Rattle.model.specs.History.{State, Answer, refusal, updated, has, answer, next}
 use Rattle.model.specs.History as history
@@ -21,7 +21,7 @@ use Rattle.table.specs.Layout.{open_place}
 use Rattle.table.specs.Limits.{damaged, absent}
 use Rattle.table.specs.After.{After, after}
 use Rattle.twofold_layout.specs.Sound.{Holding, SoundTable}
-use Rattle.table.specs.Header.{capacity_of, live_of, not_table, own_words}
+use Rattle.table.specs.Header.{capacity_of, live_of}
 use Rattle.primary_search.specs.Find.{find♯}
 use Rattle.primary_search.proofs.Sought.{find-finds, find-lacks}
 use Rattle.whole_table.specs.Insert.{table_insert♯}
@@ -31,7 +31,7 @@ use Rattle.whole_table.proofs.Inserting.{insert-sound, insert-capacity}
 use Rattle.whole_table.proofs.Striking.{strike-sound, strike-capacity}
 use Rattle.whole_table.proofs.Gaps.{insert-unused, strike-unused}
 use Rattle.table.proofs.Own.{own-table}
-use Rattle.register.specs.Performs.{alone, early, own, Later, present, full, inserts, missing, strikes, state_of, Performs}
+use Rattle.register.specs.Performs.{alone, early, own, present, full, inserts, missing, strikes, state_of, Performs}
 use Rattle.register.specs.Mirrors.{closed♯, settled♯, settled_after, insert_found, insert_own♯, insert♯, strike_found, strike_own♯, strike♯}
 use Rattle.register.proofs.Own.{own-capacity, own-live}
 use Rattle.register.proofs.Performing.{OwnUpdate, refuses, closes, accepts, Entering, turned, enters, update-performs}

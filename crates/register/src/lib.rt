@@ -1,6 +1,7 @@
 // The six calls of the register (document 01, "Where each call may stop"), on numbers and lent words. Each tests its rows in the paper's order, then lends
 // the table's own words, W(C) of those lent, to the crates below: words beyond are never written because nobody is lent them.
 #![tactic(auto)]
+
 pub mod answers;
 pub mod check;
 pub mod count;

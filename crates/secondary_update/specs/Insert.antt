@@ -1,5 +1,5 @@
 -- The mirror of the insertion, along any axis. Assumes nothing.
-use Rattle.std.specs.Prelude.{ℕ, zero, suc, ◌+◌, ◌*◌, ◌-◌, ◌/◌, ◌%◌, ◌≤◌, ◌<◌, ◌^◌, ◌≡◌, refl, Bool, true, false, not, List, leb, ltb, eqb, length}
+use Rattle.std.specs.Prelude.{ℕ, zero, suc, ◌+◌, ◌-◌, ◌/◌, ◌%◌, ◌≤◌, ◌<◌, ◌^◌, ◌≡◌, refl, Bool, true, false, not, List, leb, ltb, eqb, length}
 use Rattle.std.proofs.Common.{arith}
 use Rattle.model.specs.Lists.{if◌then◌else◌}
 use Rattle.model.specs.Axis.{Axis}

@@ -1,6 +1,7 @@
 // The program `sheet` (document 01, "The planner and the line program"): it moves bytes from standard input to a dialogue, and the dialogue's responses to
 // standard output.
 #![tactic(auto)]
+
 ghost use Rattle.register.specs.Performs.{lends};
 ghost use Rattle.dialogue.specs.Responding.{Room};
 ghost use Rattle.dialogue.specs.Dialogue.{dialogue};
@@ -167,5 +168,12 @@ fn main(rt: HostRuntime) {
     // Far more than the longest response, so that the responses to a chunk go out in few writes.
     let mut out = [0u8; 65536];
     register::open::open(&mut table, MARKS);
-    run(&rt, &mut table, &mut first, &mut second, &mut line, &mut out);
+    run(
+        &rt,
+        &mut table,
+        &mut first,
+        &mut second,
+        &mut line,
+        &mut out,
+    );
 }

@@ -1,16 +1,15 @@
 -- The sizes on every word: D(C) and W(C) in range, what the contracts say out of it, and that no product overflows. Assumes nothing.
 use Prim.Native.Nat.{ℕ, suc, ◌+◌, ◌*◌, ◌^◌, ◌≤◌, ◌<◌, min}
-use mathlib.Core.Path.{◌≡◌, refl, sym, ap, ◌∙◌}
+use mathlib.Core.Path.{◌≡◌, refl, ap, ◌∙◌}
 use mathlib.Core.Logic.{◌≢◌}
-use mathlib.Core.Bool.{true, false}
+use mathlib.Core.Bool.{false}
 use native.Mathlib.Omega.{arith}
 use native.Mathlib.Nat.{mul-le-mul}
-use lib.Dec.{eqb, ltb}
 use lib.ListN.{get_or}
-use borrow.Author.Tests.{ne_eqb, lt-ltb, le-ltb}
+use borrow.Author.Tests.{lt-ltb, le-ltb}
 use Rattle.model.specs.Sizes.{D, W, largest_capacity, capacity_outside}
 use Rattle.model.specs.Refusals.{accepted, refused, open_table}
-use Rattle.model.proofs.Logic.{by_cases, or_true_right}
+use Rattle.model.proofs.Logic.{by_cases}
 use Rattle.model.proofs.Sizes.{D-rises, capacity-small}
 use Rattle.sizes.specs.Sizes.{levels_for, words_for, visits_within, visits_for}
 use Rattle.sizes.proofs.Thresholds.{least, level, level-none}

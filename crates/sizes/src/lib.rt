@@ -1,5 +1,6 @@
 // How many levels and words a table needs for its capacity (document 01, "Marks, boxes, tables").
 #![tactic(auto)]
+
 ghost use Rattle.std.specs.Prelude.{◌≡◌, ◌+◌, ◌*◌, ◌≤◌};
 ghost use Rattle.model.specs.Refusals.{open_table};
 ghost use Rattle.model.specs.Sizes.{capacity_outside};

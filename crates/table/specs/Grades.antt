@@ -1,7 +1,7 @@
 -- Sum and worst of grades as one figure: 256 times the sum, and the worst, which is below 256. "One law for any such operation to which 0 is neutral covers
 -- both figures" (R-1): it covers this one, so nothing but `sum` and `worst` below knows what stands in it. Assumes nothing.
-use Rattle.std.specs.Prelude.{ℕ, ◌+◌, ◌*◌, ◌/◌, ◌%◌, max, List}
-use Rattle.model.specs.Totals.{Operation, total}
+use Rattle.std.specs.Prelude.{ℕ, ◌+◌, ◌*◌, ◌/◌, ◌%◌, max}
+use Rattle.model.specs.Totals.{Operation}
 use Rattle.model.specs.Sheet.{Mark}
 
 -- the figure of one grade, and of two groups of marks together

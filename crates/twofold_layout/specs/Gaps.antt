@@ -1,5 +1,5 @@
 -- The words of a table that the layout leaves unused (docs/LAYOUT.md, "Words"). Assumes nothing.
-use Rattle.std.specs.Prelude.{ℕ, suc, ◌+◌, ◌≤◌, ◌<◌, ◌≡◌}
+use Rattle.std.specs.Prelude.{ℕ, suc, ◌+◌, ◌≤◌, ◌<◌}
 use Rattle.model.specs.Sizes.{D}
 use Rattle.table.specs.Layout.{arm_width, root_place, slot_place, second_run_place, level_place, record_place}
 

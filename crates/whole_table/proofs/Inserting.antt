@@ -12,7 +12,7 @@ use lib.Seq.{sets, length-sets, get_or-set_same, get_or-set_other}
 use borrow.Author.Tests.{le-leb, lt-leb}
 use Rattle.model.specs.Lists.{indicator, count_if, insert_sorted}
 use Rattle.model.specs.Sizes.{W}
-use Rattle.model.specs.Tree.{leaf, weight, marks, marks_of, insert_leaf, rebalance}
+use Rattle.model.specs.Tree.{leaf, marks, marks_of, insert_leaf, rebalance}
 use Rattle.model.specs.Fold.{insert_rebuilt}
 use Rattle.model.specs.Sheet.{Mark, mark_outside, grade_outside, same, below_x, sheet, along_x, auxiliary, Main, main}
 use Rattle.model.specs.Slots.{slot_space, slot_axis}

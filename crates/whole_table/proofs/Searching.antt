@@ -2,7 +2,7 @@
 -- the visits and of the depth. Assumes nothing.
 use Prim.Native.Nat.{ℕ, ◌+◌, ◌*◌, ◌≤◌, ◌<◌}
 use mathlib.Core.Path.{◌≡◌, refl, sym, ap, subst, ◌∙◌}
-use mathlib.Core.Bool.{Bool, true, false}
+use mathlib.Core.Bool.{true, false}
 use mathlib.Core.List.{List, [], ◌∷◌, map}
 use mathlib.Core.Option.{Option, none, some}
 use native.Mathlib.Omega.{arith}
@@ -15,7 +15,7 @@ use Rattle.model.specs.Lists.{count_if, filter_by, sort}
 use Rattle.model.specs.Totals.{total_if, counting}
 use Rattle.model.specs.Register.{Found}
 use Rattle.model.specs.Sizes.{D, W}
-use Rattle.model.specs.Tree.{weight, depth, marks, marks_of}
+use Rattle.model.specs.Tree.{weight, depth, marks_of}
 use Rattle.model.specs.Sheet.{Mark, Box, grade_outside, summing, worst, box_crossed, same, holds, below_x, sheet, Main, main}
 use Rattle.model.specs.Slots.{map_found}
 use Rattle.model.specs.Laws.{SameBag, Distinct, All}

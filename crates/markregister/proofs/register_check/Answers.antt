@@ -1,6 +1,5 @@
 use Rattle.register.specs.Performs.{Performs}
 use mathlib.Core.Path.{sym, subst}
-use borrow.Author.Rules.{rules}
 use Rattle.markregister.proofs.register_check.Goals as goal
 
 pub returns : goal.returns

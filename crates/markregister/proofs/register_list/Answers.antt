@@ -1,5 +1,4 @@
 use Rattle.markregister.proofs.Given.{list-given}
-use borrow.Author.Rules.{rules}
 use Rattle.markregister.proofs.register_list.Goals as goal
 
 pub returns : goal.returns

@@ -1,13 +1,9 @@
 -- `answer` meets its contract. The loop keeps: the bytes before `at` have been fed, and every lent run keeps its length. What falls: the bytes left.
 -- Assumes nothing.
-use Prim.Native.Nat.{◌-◌, ◌≤◌}
-use mathlib.Core.Path.{◌≡◌, refl}
+use mathlib.Core.Path.{refl}
 use native.Mathlib.Omega.{arith}
-use lib.ListN.{length, take}
 use lib.Seq.{take_all}
 use borrow.Author.Rules.{rules}
-use Rattle.register.specs.Performs.{lends}
-use Rattle.dialogue.specs.Dialogue.{dialogue, FedThrough}
 use Rattle.dialogue.proofs.Feeding.{fed-none, fed-on}
 use Rattle.sheet.proofs.answer.Goals as goal
 

@@ -6,7 +6,6 @@ use lib.ListN.{replicate, length-replicate}
 use Rattle.register.specs.Answers.{open_answer}
 use Rattle.dialogue.specs.Program.{table_words}
 use Rattle.dialogue.proofs.Printing.{open-begins}
-use borrow.Author.Rules.{rules}
 use Rattle.sheet.proofs.main.Goals as goal
 
 pub run-requires : goal.run-requires

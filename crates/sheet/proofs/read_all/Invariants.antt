@@ -1,7 +1,6 @@
 -- `read_all` meets its contract. The loop keeps: every lent run keeps its length. What falls: turns. Assumes nothing.
 use mathlib.Core.Path.{◌≡◌}
 use lib.ListN.{length}
-use borrow.Author.Rules.{rules}
 use Rattle.sheet.proofs.read_all.Given as goal
 
 abbrev pub invariant-loop-turns : goal.invariant-loop-turns

@@ -1,6 +1,5 @@
 -- `fit` meets its contract: the words that the capacity needs decide. Assumes nothing.
 use mathlib.Core.Path.{sym, ap, ◌∙◌}
-use borrow.Author.Rules.{rules}
 use Rattle.model.specs.Refusals.{accepted}
 use Rattle.sizes.proofs.Sizes.{open_table-capacity, open_table-short, open_table-fits}
 use Rattle.sizes.proofs.fit.Goals as goal

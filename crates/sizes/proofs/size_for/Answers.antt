@@ -1,8 +1,6 @@
 -- `size_for` meets its contract: 0 and 0 out of range, and in range W(C) and the bound on visits by the capacity's levels. Assumes nothing.
-use Prim.Native.Nat.{◌≤◌}
-use mathlib.Core.Path.{◌≡◌, refl, sym, ◌∙◌}
+use mathlib.Core.Path.{refl, sym, ◌∙◌}
 use native.Mathlib.Omega.{arith}
-use borrow.Author.Rules.{rules}
 use Rattle.sizes.proofs.Sizes.{levels_for-few, visits-fit, size-within}
 use Rattle.sizes.proofs.size_for.Goals as goal
 

@@ -1,6 +1,5 @@
 -- `words` meets its contract: 0 out of range, and in range W(C) by the capacity's levels. Assumes nothing.
 use mathlib.Core.Path.{refl, sym, ◌∙◌}
-use borrow.Author.Rules.{rules}
 use Rattle.sizes.proofs.Sizes.{levels_for-few, size-within}
 use Rattle.sizes.proofs.words.Goals as goal
 

@@ -1,6 +1,5 @@
 -- `words_by` meets its contract: no product overflows. Assumes nothing.
 use native.Mathlib.Omega.{arith}
-use borrow.Author.Rules.{rules}
 use Rattle.sizes.proofs.Sizes.{words-fit}
 use Rattle.sizes.proofs.words_by.Goals as goal
 

@@ -1,4 +1,3 @@
-use borrow.Author.Rules.{rules}
 use Rattle.checking.specs.Span.{fits♯}
 use Rattle.checking.proofs.arms.fits.Goals as goal
 

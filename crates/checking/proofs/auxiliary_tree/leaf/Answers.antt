@@ -1,7 +1,5 @@
-use borrow.Author.Rules.{rules}
 use Rattle.checking.specs.Trees.{auxiliary_slot♯}
 use Rattle.checking.specs.Span.{span_leaf}
-use mathlib.Core.Logic.{⊎_elim}
 use Rattle.checking.proofs.auxiliary_tree.leaf.Goals as goal
 use Rattle.checking.proofs.auxiliary_tree.leaf.Goals.{then-may_stand+else-same, else-may_stand}
 
@@ -23,15 +21,15 @@ pub returns : goal.returns
 unfolding auxiliary_slot♯ span_leaf
 returns c =
     elim c.if-may_stand.branch [
-      then-may_stand+else-same w ↦ rw (
-      ← c.may_stand.ensures,
-      w.if-may_stand.true,
-      ← w.load-m.ensures,
-      ← w.bare.ensures,
-      ← w.leaf.ensures,
-      ← w.same.ensures,
-      w.if-same.false,
-      ← c.none.ensures,
-    )
-    | else-may_stand w ↦ rw (← c.may_stand.ensures, w.if-may_stand.false, ← c.none.ensures)
+      | then-may_stand+else-same w ↦ rw (
+        ← c.may_stand.ensures,
+        w.if-may_stand.true,
+        ← w.load-m.ensures,
+        ← w.bare.ensures,
+        ← w.leaf.ensures,
+        ← w.same.ensures,
+        w.if-same.false,
+        ← c.none.ensures,
+      )
+      | else-may_stand w ↦ rw (← c.may_stand.ensures, w.if-may_stand.false, ← c.none.ensures)
     ]

@@ -1,4 +1,3 @@
-use borrow.Author.Rules.{rules}
 use Rattle.checking.specs.Trees.{auxiliary_slot♯}
 use Rattle.checking.proofs.auxiliary_tree.may_stand.Goals as goal
 

@@ -1,6 +1,4 @@
-use borrow.Author.Rules.{rules}
 use Rattle.checking.specs.Span.{span_over}
-use mathlib.Core.Logic.{⊎_elim}
 use Rattle.checking.proofs.auxiliary_tree.over.Goals as goal
 use Rattle.checking.proofs.auxiliary_tree.over.Goals.{then-joins+else-below_y, else-joins}
 
@@ -21,14 +19,14 @@ pub returns : goal.returns
 unfolding span_over
 returns c =
     elim c.if-joins.branch [
-      then-joins+else-below_y w ↦ rw (
-      ← c.joins.ensures,
-      w.if-joins.true,
-      ← w.load-m.ensures,
-      ← w.load.ensures,
-      ← w.below_y.ensures,
-      w.if-below_y.false,
-      ← c.none.ensures,
-    )
-    | else-joins w ↦ rw (← c.joins.ensures, w.if-joins.false, ← c.none.ensures)
+      | then-joins+else-below_y w ↦ rw (
+        ← c.joins.ensures,
+        w.if-joins.true,
+        ← w.load-m.ensures,
+        ← w.load.ensures,
+        ← w.below_y.ensures,
+        w.if-below_y.false,
+        ← c.none.ensures,
+      )
+      | else-joins w ↦ rw (← c.joins.ensures, w.if-joins.false, ← c.none.ensures)
     ]

@@ -1,7 +1,6 @@
 use Prim.Native.Nat.{ℕ}
 use mathlib.Core.Path.{sym, subst}
 use mathlib.Core.List.{List}
-use borrow.Author.Rules.{rules}
 use Rattle.checking.specs.Verdict.{Verdict}
 use Rattle.checking.proofs.Exact.{check-exact}
 use Rattle.checking.proofs.check.check.Goals as goal

@@ -1,4 +1,3 @@
-use borrow.Author.Rules.{rules}
 use borrow.Author.Tests.{eq-eqb, ne_eqb}
 use Rattle.checking.specs.Check.{root_stands, sound_tree♯}
 use Rattle.checking.proofs.check.holds_tree.Goals as goal

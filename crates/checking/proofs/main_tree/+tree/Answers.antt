@@ -1,7 +1,7 @@
 use mathlib.Core.Path.{sym, subst}
 use native.Mathlib.Omega.{arith}
 use Rattle.checking.proofs.Room.{main-within}
-use Prim.Native.Nat.{ℕ, ◌<◌}
+use Prim.Native.Nat.{◌<◌}
 use borrow.Author.Tests.{le-leb, lt-leb}
 use Rattle.checking.specs.Trees.{main_span♯-suc, main_span♯-zero}
 use borrow.Author.Rules.{rules}

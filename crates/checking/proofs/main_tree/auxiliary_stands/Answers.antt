@@ -1,4 +1,3 @@
-use borrow.Author.Rules.{rules}
 use Rattle.checking.specs.Trees.{auxiliary_stands♯}
 use borrow.Author.Tests.{eq-eqb, ne_eqb}
 use Rattle.checking.proofs.main_tree.auxiliary_stands.Goals as goal

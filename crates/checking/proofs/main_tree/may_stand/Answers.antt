@@ -1,4 +1,3 @@
-use borrow.Author.Rules.{rules}
 use Rattle.checking.specs.Trees.{main_slot♯}
 use Rattle.checking.proofs.main_tree.may_stand.Goals as goal
 

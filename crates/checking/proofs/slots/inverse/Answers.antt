@@ -1,26 +1,22 @@
 -- The loop keeps: left ≤ capacity; inverse♯ of left is that of capacity. What falls: left.
-use Prim.Native.Nat.{◌<◌, ◌≤◌}
-use mathlib.Core.Path.{◌≡◌}
 use native.Mathlib.Omega.{arith}
 use Rattle.table.proofs.Fuel.{positive, nothing}
-use Rattle.checking.specs.Slots.{inverse♯, inverse♯-zero, inverse♯-suc}
-use borrow.Author.Rules.{rules}
+use Rattle.checking.specs.Slots.{inverse♯-zero, inverse♯-suc}
 use Rattle.checking.proofs.slots.inverse.Goals as goal
 
 pub loop-left-smaller : goal.loop-left-smaller
 loop-left-smaller c = omega (arith, c.loop-left-test.true)
 
 pub loop-left-preserved : goal.loop-left-preserved
-loop-left-preserved c =
-    (
-      omega (arith, c.loop-left.invariant.0),
-      rw (
-        ← c.loop-left.invariant.1,
-        inverse♯-suc _ (positive _ c.loop-left-test.true),
-        ← c.placed.ensures,
-        c.if-placed.true,
-      ),
-    )
+loop-left-preserved c = (
+  omega (arith, c.loop-left.invariant.0),
+  rw (
+    ← c.loop-left.invariant.1,
+    inverse♯-suc _ (positive _ c.loop-left-test.true),
+    ← c.placed.ensures,
+    c.if-placed.true,
+  ),
+)
 
 pub returns-else-placed : goal.returns-else-placed
 returns-else-placed c =

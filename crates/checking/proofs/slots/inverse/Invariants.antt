@@ -1,10 +1,7 @@
 -- The loop keeps: left ≤ capacity; inverse♯ of left is that of capacity. What falls: left.
-use Prim.Native.Nat.{◌<◌, ◌≤◌}
+use Prim.Native.Nat.{◌≤◌}
 use mathlib.Core.Path.{◌≡◌}
-use native.Mathlib.Omega.{arith}
-use Rattle.table.proofs.Fuel.{positive, nothing}
-use Rattle.checking.specs.Slots.{inverse♯, inverse♯-zero, inverse♯-suc}
-use borrow.Author.Rules.{rules}
+use Rattle.checking.specs.Slots.{inverse♯}
 use Rattle.checking.proofs.slots.inverse.Given as goal
 
 abbrev pub invariant-loop-left : goal.invariant-loop-left

@@ -1,4 +1,3 @@
-use borrow.Author.Rules.{rules}
 use borrow.Author.Tests.{lt-leb}
 use Rattle.checking.specs.Slots.{live_slot♯}
 use Rattle.checking.proofs.slots.is_live.Goals as goal

@@ -1,4 +1,3 @@
-use borrow.Author.Rules.{rules}
 use borrow.Author.Tests.{le-leb, lt-leb}
 use Rattle.checking.specs.Slots.{placed♯}
 use Rattle.checking.proofs.slots.placed.Goals as goal

@@ -1,12 +1,9 @@
 -- `feed_some` meets its contract. The loop keeps: the bytes before `used` are fed, their text is the first `bytes` of `out`, and every lent run keeps its
 -- length. What falls: the bytes left. Assumes nothing.
-use Prim.Native.Nat.{◌-◌, ◌≤◌}
-use mathlib.Core.Path.{◌≡◌, refl}
+use mathlib.Core.Path.{refl}
 use native.Mathlib.Omega.{arith}
-use lib.ListN.{length, take}
 use borrow.Author.Rules.{rules}
-use Rattle.register.specs.Performs.{lends}
-use Rattle.dialogue.specs.Dialogue.{dialogue, FedAll, none}
+use Rattle.dialogue.specs.Dialogue.{none}
 use Rattle.dialogue.proofs.Feeding.{fed-behind}
 use Rattle.dialogue.proofs.batch.feed_some.Goals as goal
 

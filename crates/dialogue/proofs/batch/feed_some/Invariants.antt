@@ -1,13 +1,10 @@
 -- `feed_some` meets its contract. The loop keeps: the bytes before `used` are fed, their text is the first `bytes` of `out`, and every lent run keeps its
 -- length. What falls: the bytes left. Assumes nothing.
 use Prim.Native.Nat.{◌-◌, ◌≤◌}
-use mathlib.Core.Path.{◌≡◌, refl}
-use native.Mathlib.Omega.{arith}
+use mathlib.Core.Path.{◌≡◌}
 use lib.ListN.{length, take}
-use borrow.Author.Rules.{rules}
 use Rattle.register.specs.Performs.{lends}
-use Rattle.dialogue.specs.Dialogue.{dialogue, FedAll, none}
-use Rattle.dialogue.proofs.Feeding.{fed-behind}
+use Rattle.dialogue.specs.Dialogue.{dialogue, FedAll}
 use Rattle.dialogue.proofs.batch.feed_some.Given as goal
 
 abbrev pub invariant-loop-used : goal.invariant-loop-used

@@ -5,7 +5,6 @@ use Rattle.geometry.specs.Values.{box_value}
 use Rattle.register.specs.Answers.{count_given}
 use Rattle.lines.specs.Commands.{count}
 use Rattle.dialogue.proofs.Answering.{answered-first}
-use borrow.Author.Rules.{rules}
 use Rattle.dialogue.proofs.perform.count.Goals as goal
 
 pub returns : goal.returns

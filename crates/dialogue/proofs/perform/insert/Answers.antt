@@ -5,7 +5,6 @@ use Rattle.geometry.specs.Values.{mark_value}
 use Rattle.register.specs.Answers.{update_given}
 use Rattle.lines.specs.Commands.{insert}
 use Rattle.dialogue.proofs.Answering.{answered-first}
-use borrow.Author.Rules.{rules}
 use Rattle.dialogue.proofs.perform.insert.Goals as goal
 
 pub returns : goal.returns

@@ -7,7 +7,6 @@ use Rattle.register.specs.Answers.{ListFigures, list_given}
 use Rattle.register.specs.Performs.{lends}
 use Rattle.lines.specs.Commands.{list}
 use Rattle.dialogue.proofs.Answering.{answered-first, list-room, answered-list}
-use borrow.Author.Rules.{rules}
 use Rattle.dialogue.proofs.perform.list.Goals as goal
 
 abbrev given : ℕ → ℕ → ℕ → ℕ → ListFigures

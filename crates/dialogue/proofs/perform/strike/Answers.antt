@@ -5,7 +5,6 @@ use Rattle.model.specs.History as history
 use Rattle.register.specs.Answers.{update_given}
 use Rattle.lines.specs.Commands.{strike}
 use Rattle.dialogue.proofs.Answering.{answered-first}
-use borrow.Author.Rules.{rules}
 use Rattle.dialogue.proofs.perform.strike.Goals as goal
 
 pub returns : goal.returns

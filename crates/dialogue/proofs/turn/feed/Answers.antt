@@ -2,7 +2,6 @@
 use mathlib.Core.Path.{refl}
 use native.Mathlib.Omega.{arith}
 use Rattle.dialogue.specs.Dialogue.{ends, goes_on}
-use borrow.Author.Rules.{rules}
 use Rattle.dialogue.proofs.turn.feed.Goals as goal
 
 pub returns-then-byte-eq10 : goal.returns-then-byte-eq10

@@ -2,7 +2,6 @@
 use mathlib.Core.Path.{refl}
 use native.Mathlib.Omega.{arith}
 use Rattle.dialogue.specs.Dialogue.{rest, no_rest}
-use borrow.Author.Rules.{rules}
 use Rattle.dialogue.proofs.turn.finish.Goals as goal
 
 pub returns-then-len-eq0 : goal.returns-then-len-eq0

@@ -1,6 +1,5 @@
 -- `respond` meets its contract. Assumes nothing.
 use Rattle.lines.specs.Values.{line_of}
-use borrow.Author.Rules.{rules}
 use Rattle.dialogue.proofs.turn.respond.Goals as goal
 
 pub returns : goal.returns

@@ -1,5 +1,4 @@
 -- `Box::clear_x` meets its contract: by the tests of the cell's two ends. Assumes nothing.
-use borrow.Author.Rules.{rules}
 use Rattle.geometry.proofs.Box.clear_x.Goals as goal
 
 pub returns-then-before_x : goal.returns-then-before_x

@@ -1,5 +1,4 @@
 -- `Box::clear_y` meets its contract: by the tests of the cell's two ends. Assumes nothing.
-use borrow.Author.Rules.{rules}
 use Rattle.geometry.proofs.Box.clear_y.Goals as goal
 
 pub returns-then-before_y : goal.returns-then-before_y

@@ -1,5 +1,4 @@
 -- `Box::holds` meets its contract: a place is a cell with one coordinate along each axis. Assumes nothing.
-use borrow.Author.Rules.{rules}
 use Rattle.model.specs.Sheet.{holds}
 use Rattle.geometry.proofs.Box.holds.Goals as goal
 

@@ -1,5 +1,4 @@
 -- `Box::inside_y` meets its contract: by the tests of the cell's two ends. Assumes nothing.
-use borrow.Author.Rules.{rules}
 use Rattle.model.specs.Sheet.{along_y}
 use Rattle.geometry.specs.Values.{box_value}
 use Rattle.geometry.proofs.Sides.{inside-before, inside-within}

@@ -1,7 +1,6 @@
 -- `Key::below` meets its contract: each return by the places that it has compared. Assumes nothing.
 use mathlib.Core.Path.{sym}
 use native.Mathlib.Omega.{arith}
-use borrow.Author.Rules.{rules}
 use Rattle.geometry.proofs.Keys.{place-lt, place-eq, place-gt}
 use Rattle.geometry.proofs.Key.below.Goals as goal
 

@@ -1,6 +1,5 @@
 -- `Mark::below_x` meets its contract: the order of the marks' keys is the order by x, y, tag. Assumes nothing.
 use mathlib.Core.Path.{ap₂, ◌∙◌}
-use borrow.Author.Rules.{rules}
 use Rattle.geometry.specs.Values.{key_below}
 use Rattle.geometry.proofs.Keys.{key_x-below}
 use Rattle.geometry.proofs.Mark.below_x.Goals as goal

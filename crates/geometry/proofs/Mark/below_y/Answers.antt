@@ -1,6 +1,5 @@
 -- `Mark::below_y` meets its contract: the order of the marks' keys is the order by y, x, tag. Assumes nothing.
 use mathlib.Core.Path.{ap₂, ◌∙◌}
-use borrow.Author.Rules.{rules}
 use Rattle.geometry.specs.Values.{key_below}
 use Rattle.geometry.proofs.Keys.{key_y-below}
 use Rattle.geometry.proofs.Mark.below_y.Goals as goal

@@ -1,5 +1,4 @@
 -- `Mark::new` meets its contract. Assumes nothing.
-use borrow.Author.Rules.{rules}
 use Rattle.model.specs.Refusals.{enter_mark}
 use Rattle.geometry.proofs.Mark.new.Goals as goal
 

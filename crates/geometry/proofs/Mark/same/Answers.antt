@@ -1,7 +1,6 @@
 -- `Mark::same` meets its contract: marks are the same where their places are one number and their tags are equal. Assumes nothing.
 use mathlib.Core.Path.{ap, ◌∙◌}
 use native.Mathlib.Omega.{arith}
-use borrow.Author.Rules.{rules}
 use Rattle.geometry.specs.Values.{place}
 use Rattle.geometry.proofs.Keys.{place_same}
 use Rattle.geometry.proofs.Mark.same.Goals as goal

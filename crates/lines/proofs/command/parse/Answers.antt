@@ -1,6 +1,5 @@
 -- `parse` meets its contract: letter by letter. Assumes nothing.
 use borrow.Author.Tests.{eq-eqb, ne_eqb}
-use borrow.Author.Rules.{rules}
 use Rattle.lines.specs.Reading.{read♯}
 use Rattle.lines.proofs.command.parse.Goals as goal
 

@@ -1,5 +1,4 @@
 -- `read` meets its contract. Assumes nothing.
-use borrow.Author.Rules.{rules}
 use Rattle.lines.proofs.Reading.{reads-line}
 use Rattle.lines.proofs.command.read.Goals as goal
 

@@ -1,5 +1,4 @@
 -- `read_four` meets its contract: a field, and three. Assumes nothing.
-use borrow.Author.Rules.{rules}
 use Rattle.lines.specs.Reading.{read_four♯}
 use Rattle.lines.proofs.command.read_four.Goals as goal
 

@@ -1,5 +1,4 @@
 -- `read_three` meets its contract: field by field. Assumes nothing.
-use borrow.Author.Rules.{rules}
 use Rattle.lines.specs.Reading.{read_three♯}
 use Rattle.lines.proofs.Places.{at_end-more, at_end-end}
 use Rattle.lines.proofs.command.read_three.Goals as goal

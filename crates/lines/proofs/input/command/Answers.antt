@@ -1,7 +1,6 @@
 -- `command` meets its contract. Assumes nothing.
 use native.Mathlib.Nat.{sub-zero}
 use native.Mathlib.Omega.{arith}
-use borrow.Author.Rules.{rules}
 use Rattle.lines.specs.Values.{line_of}
 use Rattle.lines.proofs.Gathering.{gathered-long, gathered-room, gathered-short}
 use Rattle.lines.proofs.input.command.Goals as goal

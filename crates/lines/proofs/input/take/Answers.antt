@@ -1,5 +1,4 @@
 -- `take` meets its contract. Assumes nothing.
-use borrow.Author.Rules.{rules}
 use borrow.Author.Tests.{le-leb, lt-leb}
 use Rattle.lines.specs.Input.{gather}
 use Rattle.lines.proofs.input.take.Goals as goal

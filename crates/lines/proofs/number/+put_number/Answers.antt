@@ -1,9 +1,7 @@
 -- `put_number` meets its contract; the number falls to its tenth. Assumes nothing.
-use Prim.Native.Nat.{ℕ, ◌<◌}
 use mathlib.Core.Path.{ap}
 use native.Mathlib.Omega.{arith}
 use lib.ListN.{length}
-use borrow.Author.Rules.{rules}
 use Rattle.lines.proofs.Digits.{digits-single, digits_more, digits-longer}
 use Rattle.lines.proofs.Writing.{wrote_then}
 use Rattle.lines.proofs.number.+put_number.Goals as goal
@@ -17,11 +15,10 @@ returns-then-n-lt10 t c =
     rw (digits-single c.args.n c.if-n-lt10.true) c.put_byte.ensures
 
 pub put_number-last-requires : goal.put_number-last-requires
-put_number-last-requires t c =
-    (
-      omega (arith, c.decreases, c.if-n-lt10.false),
-      omega (arith, c.requires, digits-longer c.args.n c.if-n-lt10.false),
-    )
+put_number-last-requires t c = (
+  omega (arith, c.decreases, c.if-n-lt10.false),
+  omega (arith, c.requires, digits-longer c.args.n c.if-n-lt10.false),
+)
 
 pub put_byte-requires-2 : goal.put_byte-requires-2
 put_byte-requires-2 t c =

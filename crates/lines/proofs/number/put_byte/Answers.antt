@@ -1,8 +1,5 @@
 -- `put_byte` meets its contract: past the end nothing is written. Assumes nothing.
-use mathlib.Core.Path.{refl, sym, ap, ◌∙◌}
-use mathlib.Core.Logic.{⊎_elim}
-use borrow.Author.Rules.{rules}
-use lib.ListN.{length, length-set}
+use mathlib.Core.Path.{refl, sym, ◌∙◌}
 use lib.Seq.{set_out}
 use Rattle.lines.proofs.number.put_byte.Goals as goal
 use Rattle.lines.proofs.number.put_byte.Goals.{then-i-out, else-i-out}
@@ -13,7 +10,7 @@ returns c =
     record {
       next = refl;
       bytes = elim c.if-i-out.branch [
-        then-i-out w ↦ w.out-is
-      | else-i-out w ↦ w.out-is ∙ sym (set_out a.out.now a.at a.b w.if-i-out.false)
+        | then-i-out w ↦ w.out-is
+        | else-i-out w ↦ w.out-is ∙ sym (set_out a.out.now a.at a.b w.if-i-out.false)
       ];
     }

@@ -1,7 +1,6 @@
 -- `read_field` meets its contract. Assumes nothing.
 use mathlib.Core.Path.{sym, ◌∙◌}
 use native.Mathlib.Omega.{arith}
-use borrow.Author.Rules.{rules}
 use Rattle.lines.proofs.Places.{byte_inside, read_field-comma, read_field-other}
 use Rattle.lines.proofs.number.read_field.Goals as goal
 

@@ -1,8 +1,6 @@
 -- `read_number` meets its contract. Assumes nothing.
-use Prim.Native.Nat.{◌<◌}
 use mathlib.Core.Path.{sym, ◌∙◌}
 use native.Mathlib.Omega.{arith}
-use borrow.Author.Rules.{rules}
 use Rattle.lines.proofs.Places.{byte_inside, read_number-low, read_number-high, read_number-zero, read_number-digit}
 use Rattle.lines.proofs.number.read_number.Goals as goal
 

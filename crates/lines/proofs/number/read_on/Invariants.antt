@@ -1,12 +1,9 @@
 -- `read_on` meets its contract. The loop keeps: what is left to read goes on from the value read so far, which fits a word. What falls: the bytes left.
 -- Assumes nothing.
 use Prim.Native.Nat.{◌-◌, ◌<◌}
-use mathlib.Core.Path.{◌≡◌, refl, sym, ◌∙◌}
-use native.Mathlib.Omega.{arith}
+use mathlib.Core.Path.{◌≡◌}
 use lib.ListN.{length, drop}
-use borrow.Author.Rules.{rules}
 use Rattle.lines.specs.Reading.{read_on♯}
-use Rattle.lines.proofs.Places.{read_on-low, read_on-high, read_on-large, read_on-digit, read_on-end}
 use Rattle.lines.proofs.number.read_on.Given as goal
 
 abbrev pub invariant-loop-at : goal.invariant-loop-at

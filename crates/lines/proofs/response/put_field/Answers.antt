@@ -2,7 +2,6 @@
 use native.Mathlib.Omega.{arith}
 use Rattle.lines.proofs.Digits.{digits-short}
 use Rattle.lines.proofs.Writing.{wrote_then}
-use borrow.Author.Rules.{rules}
 use Rattle.lines.proofs.response.put_field.Goals as goal
 
 pub put_number-requires : goal.put_number-requires

@@ -1,14 +1,9 @@
 -- `put_fields` meets its contract. The loop keeps: the first i numbers are written, at most 11 bytes each. What falls: what is left of them. Assumes nothing.
 use Prim.Native.Nat.{◌+◌, ◌-◌, ◌*◌, ◌≤◌}
-use mathlib.Core.Path.{◌≡◌, refl, ◌∙◌}
-use native.Mathlib.Omega.{arith}
+use mathlib.Core.Path.{◌≡◌}
 use lib.ListN.{length, take}
-use lib.Seq.{take_all}
-use borrow.Author.Rules.{rules}
 use Rattle.lines.specs.Text.{fields}
 use Rattle.lines.specs.Writing.{Wrote}
-use Rattle.lines.proofs.Responses.{fields-more}
-use Rattle.lines.proofs.Writing.{wrote_nothing, wrote_then}
 use Rattle.lines.proofs.response.put_fields.Given as goal
 
 abbrev pub invariant-loop-i : goal.invariant-loop-i

@@ -1,6 +1,5 @@
 -- `put_figures` meets its contract. Assumes nothing.
 use native.Mathlib.Omega.{arith}
-use borrow.Author.Rules.{rules}
 use Rattle.lines.proofs.Writing.{wrote_then}
 use Rattle.lines.proofs.Responses.{answer-parts}
 use Rattle.lines.proofs.response.put_figures.Goals as goal

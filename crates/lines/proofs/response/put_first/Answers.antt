@@ -1,5 +1,4 @@
 -- `put_first` meets its contract. Assumes nothing.
-use borrow.Author.Rules.{rules}
 use borrow.Author.Tests.{eq-eqb, ne_eqb}
 use Rattle.lines.specs.Responses.{first_line}
 use Rattle.lines.proofs.response.put_first.Goals as goal

@@ -1,6 +1,5 @@
 -- `put_mark` meets its contract. Assumes nothing.
 use native.Mathlib.Omega.{arith}
-use borrow.Author.Rules.{rules}
 use Rattle.geometry.specs.Values.{mark_value}
 use Rattle.lines.proofs.Digits.{digits-short}
 use Rattle.lines.proofs.Writing.{wrote_then}

@@ -1,14 +1,10 @@
 -- `put_marks` meets its contract. The loop keeps: the lines of the first i marks are written, at most 44 bytes each. What falls: k - i. Assumes nothing.
 use Prim.Native.Nat.{◌+◌, ◌-◌, ◌*◌, ◌≤◌}
-use mathlib.Core.Path.{◌≡◌, refl, ◌∙◌}
-use native.Mathlib.Omega.{arith}
+use mathlib.Core.Path.{◌≡◌}
 use lib.ListN.{length}
-use borrow.Author.Rules.{rules}
 use Rattle.table.specs.Marks.{list_marks}
 use Rattle.lines.specs.Responses.{mark_lines}
 use Rattle.lines.specs.Writing.{Wrote}
-use Rattle.lines.proofs.Responses.{mark_lines-more}
-use Rattle.lines.proofs.Writing.{wrote_nothing, wrote_then}
 use Rattle.lines.proofs.response.put_marks.Given as goal
 
 abbrev pub invariant-loop-i : goal.invariant-loop-i

@@ -1,5 +1,4 @@
 -- `put_refusal` meets its contract. Assumes nothing.
-use borrow.Author.Rules.{rules}
 use Rattle.lines.specs.Responses.{refusal_line}
 use Rattle.lines.proofs.response.put_refusal.Goals as goal
 

@@ -1,4 +1,3 @@
-use borrow.Author.Rules.{rules}
 use Rattle.nodes.specs.Arms.{inner_number}
 use Rattle.nodes.proofs.arm.inner_number.Goals as goal
 

@@ -1,4 +1,3 @@
-use borrow.Author.Rules.{rules}
 use Rattle.nodes.specs.Arms.{leaf_number}
 use Rattle.nodes.proofs.arm.leaf_number.Goals as goal
 

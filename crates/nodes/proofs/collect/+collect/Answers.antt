@@ -1,14 +1,10 @@
 -- The loop keeps: length of t is that of t₀; left ≤ fuel; collect♯ of left, rest, at, got, t is that of fuel, rest₀, at₀, got₀, t₀.
 -- What falls: left.
-use Prim.Native.Nat.{ℕ, ◌<◌, ◌≤◌}
-use mathlib.Core.Path.{◌≡◌}
-use lib.ListN.{length}
 use Rattle.table.proofs.Fuel.{positive, nothing}
-use Rattle.nodes.specs.Collect.{strided, collect_parts, collect_both, collect_inner, collect_at, collect♯, collect♯-zero, collect♯-suc}
+use Rattle.nodes.specs.Collect.{collect_parts, collect_both, collect_inner, collect_at, collect♯-zero, collect♯-suc}
 use Rattle.nodes.proofs.Turns.{strided-there, collect_right, collect-left-leaf, collect-spent}
 use native.Mathlib.Omega.{arith}
 use borrow.Author.Tests.{eq-eqb, le-leb, lt-leb, ne_eqb}
-use borrow.Author.Rules.{rules}
 use Rattle.nodes.proofs.collect.+collect.Goals as goal
 
 pub returns-then-capacity-got : goal.returns-then-capacity-got
@@ -89,42 +85,40 @@ returns-then-left-eq0 t c =
 
 pub loop-left-preserved-then-below-eq0 : goal.loop-left-preserved-then-below-eq0
 unfolding collect_at collect_inner collect_both collect_right
-loop-left-preserved-then-below-eq0 t c =
-    (
-      omega (arith, c.loop-left.invariant.0),
-      omega (arith, c.loop-left.invariant.1),
-      rw (
-        ← c.loop-left.invariant.2,
-        collect♯-suc _ (positive _ c.loop-left-test.true),
-        lt-leb _ _ c.if-capacity-got.false,
-        ne_eqb _ _ c.if-at-eq0.false,
-        lt-leb _ _ c.if-capacity-name.false,
-        ← c.record-p.ensures,
-        ne_eqb _ _ c.if-part-eq0.false,
-        lt-leb _ _ c.if-rest-part.false,
-        collect-left-leaf _ _ _ _ _ _ _ _ c.if-left-eq0.false c.if-capacity-got.false (eq-eqb _ _ c.if-below-eq0.true),
-        ← c.take-got.ensures,
-      ),
-    )
+loop-left-preserved-then-below-eq0 t c = (
+  omega (arith, c.loop-left.invariant.0),
+  omega (arith, c.loop-left.invariant.1),
+  rw (
+    ← c.loop-left.invariant.2,
+    collect♯-suc _ (positive _ c.loop-left-test.true),
+    lt-leb _ _ c.if-capacity-got.false,
+    ne_eqb _ _ c.if-at-eq0.false,
+    lt-leb _ _ c.if-capacity-name.false,
+    ← c.record-p.ensures,
+    ne_eqb _ _ c.if-part-eq0.false,
+    lt-leb _ _ c.if-rest-part.false,
+    collect-left-leaf _ _ _ _ _ _ _ _ c.if-left-eq0.false c.if-capacity-got.false (eq-eqb _ _ c.if-below-eq0.true),
+    ← c.take-got.ensures,
+  ),
+)
 
 pub loop-left-preserved : goal.loop-left-preserved
 unfolding collect_at collect_inner collect_both collect_parts
-loop-left-preserved t c =
-    (
-      omega (arith, c.loop-left.invariant.0),
-      omega (arith, c.loop-left.invariant.1),
-      rw (
-        ← c.loop-left.invariant.2,
-        collect♯-suc _ (positive _ c.loop-left-test.true),
-        lt-leb _ _ c.if-capacity-got.false,
-        ne_eqb _ _ c.if-at-eq0.false,
-        lt-leb _ _ c.if-capacity-name.false,
-        ← c.record-p.ensures,
-        ne_eqb _ _ c.if-part-eq0.false,
-        lt-leb _ _ c.if-rest-part.false,
-        ← c.collect-got.ensures,
-      ),
-    )
+loop-left-preserved t c = (
+  omega (arith, c.loop-left.invariant.0),
+  omega (arith, c.loop-left.invariant.1),
+  rw (
+    ← c.loop-left.invariant.2,
+    collect♯-suc _ (positive _ c.loop-left-test.true),
+    lt-leb _ _ c.if-capacity-got.false,
+    ne_eqb _ _ c.if-at-eq0.false,
+    lt-leb _ _ c.if-capacity-name.false,
+    ← c.record-p.ensures,
+    ne_eqb _ _ c.if-part-eq0.false,
+    lt-leb _ _ c.if-rest-part.false,
+    ← c.collect-got.ensures,
+  ),
+)
 
 pub returns : goal.returns
 unfolding collect_at collect_inner collect_both collect_parts

@@ -1,14 +1,9 @@
 -- The loop keeps: length of t is that of t₀; left ≤ fuel; collect♯ of left, rest, at, got, t is that of fuel, rest₀, at₀, got₀, t₀.
 -- What falls: left.
-use Prim.Native.Nat.{ℕ, ◌<◌, ◌≤◌}
+use Prim.Native.Nat.{◌≤◌}
 use mathlib.Core.Path.{◌≡◌}
 use lib.ListN.{length}
-use Rattle.table.proofs.Fuel.{positive, nothing}
-use Rattle.nodes.specs.Collect.{strided, collect_parts, collect_both, collect_inner, collect_at, collect♯, collect♯-zero, collect♯-suc}
-use Rattle.nodes.proofs.Turns.{strided-there, collect_right, collect-left-leaf, collect-spent}
-use native.Mathlib.Omega.{arith}
-use borrow.Author.Tests.{eq-eqb, le-leb, lt-leb, ne_eqb}
-use borrow.Author.Rules.{rules}
+use Rattle.nodes.specs.Collect.{strided, collect♯}
 use Rattle.nodes.proofs.collect.+collect.Given as goal
 
 abbrev pub decreases-collect : goal.decreases-collect

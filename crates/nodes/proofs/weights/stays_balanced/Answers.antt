@@ -1,4 +1,3 @@
-use borrow.Author.Rules.{rules}
 use Rattle.nodes.proofs.weights.stays_balanced.Goals as goal
 
 pub returns : goal.returns

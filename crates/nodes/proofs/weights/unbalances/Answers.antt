@@ -1,4 +1,3 @@
-use borrow.Author.Rules.{rules}
 use Rattle.nodes.specs.Weights.{unbalances}
 use Rattle.nodes.proofs.weights.unbalances.Goals as goal
 

@@ -1,4 +1,3 @@
-use borrow.Author.Rules.{rules}
 use Rattle.primary_insert.specs.Insert.{grow♯}
 use Rattle.primary_insert.proofs.insert.grow.Goals as goal
 

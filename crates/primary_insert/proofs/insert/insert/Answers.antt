@@ -1,4 +1,3 @@
-use borrow.Author.Rules.{rules}
 use borrow.Author.Tests.{eq-eqb, ne_eqb}
 use Rattle.primary_insert.specs.Insert.{insert_root, main_insert♯}
 use Rattle.primary_insert.proofs.insert.insert.Goals as goal

@@ -1,4 +1,3 @@
-use borrow.Author.Rules.{rules}
 use Rattle.primary_insert.specs.Insert.{afresh_once, main_afresh♯, put_rebuilt, rebuilt_at}
 use borrow.Author.Tests.{eq-eqb, ne_eqb}
 use Rattle.primary_insert.proofs.insert.insert_afresh.Goals as goal

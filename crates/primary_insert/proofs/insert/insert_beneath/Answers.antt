@@ -1,17 +1,12 @@
 -- The loop keeps: as many words; the arm at the word `at` is there; the insertion that is left, from `at` and its level on with `left` levels, is the whole
 -- one. What falls: left.
 use native.Mathlib.Omega.{arith}
-use Prim.Native.Nat.{◌+◌, ◌<◌, ◌≤◌, ◌^◌}
-use mathlib.Core.Path.{◌≡◌}
-use lib.ListN.{length}
-use Rattle.geometry.specs.Values.{mark_value}
 use borrow.Author.Tests.{eq-eqb, ne_eqb, le-leb, lt-leb}
-use Rattle.primary_insert.specs.Insert.{insert_beneath♯, insert_beneath♯-suc, insert_beneath♯-zero}
+use Rattle.primary_insert.specs.Insert.{insert_beneath♯-suc, insert_beneath♯-zero}
 use Rattle.primary_insert.specs.Insert.{insert_on, main_insert_arm, main_insert_child, main_insert_node, main_insert_way}
 use borrow.Author.Rules.{rules}
 use Rattle.table.proofs.Fuel.{positive, nothing}
 use Rattle.primary_insert.proofs.Steps.{child-there}
-use Rattle.table.specs.Layout.{arm_width}
 use Rattle.primary_insert.proofs.insert.insert_beneath.Goals as goal
 
 pub load-a-requires : goal.load-a-requires
@@ -31,16 +26,15 @@ returns-then-capacity-name c =
     )
 
 pub insert_at_leaf-requires : goal.insert_at_leaf-requires
-insert_at_leaf-requires c =
-    (
-      rw (← c.slot-name.ensures) c.if-capacity-name.false,
-      (
-        c.requires.0,
-        c.loop-left.invariant.1,
-        omega (arith, c.loop-left.invariant.0, c.loop-left.invariant.2),
-        omega (arith, c.loop-left.invariant.0, c.requires.3),
-      ),
-    )
+insert_at_leaf-requires c = (
+  rw (← c.slot-name.ensures) c.if-capacity-name.false,
+  (
+    c.requires.0,
+    c.loop-left.invariant.1,
+    omega (arith, c.loop-left.invariant.0, c.loop-left.invariant.2),
+    omega (arith, c.loop-left.invariant.0, c.requires.3),
+  ),
+)
 
 -- a leaf
 pub returns-then-is_leaf : goal.returns-then-is_leaf
@@ -58,11 +52,10 @@ returns-then-is_leaf c =
     )
 
 pub fork-fork-requires : goal.fork-fork-requires
-fork-fork-requires c =
-    (
-      omega (arith, c.loop-left.invariant.0, c.requires.3, c.if-capacity-name.false),
-      omega (arith, c.loop-left.invariant.0, c.requires.3, c.if-capacity-name.false),
-    )
+fork-fork-requires c = (
+  omega (arith, c.loop-left.invariant.0, c.requires.3, c.if-capacity-name.false),
+  omega (arith, c.loop-left.invariant.0, c.requires.3, c.if-capacity-name.false),
+)
 
 -- the weights do not add up
 pub returns-then-disagree : goal.returns-then-disagree
@@ -83,13 +76,12 @@ returns-then-disagree c =
     )
 
 pub insert_afresh-requires : goal.insert_afresh-requires
-insert_afresh-requires c =
-    (
-      c.requires.0,
-      c.loop-left.invariant.1,
-      omega (arith, c.loop-left.invariant.0, c.loop-left.invariant.2),
-      omega (arith, c.loop-left.invariant.0, c.requires.3),
-    )
+insert_afresh-requires c = (
+  c.requires.0,
+  c.loop-left.invariant.1,
+  omega (arith, c.loop-left.invariant.0, c.loop-left.invariant.2),
+  omega (arith, c.loop-left.invariant.0, c.requires.3),
+)
 
 pub shape_of-t-then-unbalances : goal.shape_of-t-then-unbalances
 shape_of-t-then-unbalances c =
@@ -117,16 +109,15 @@ returns-then-unbalances c =
     )
 
 pub grow-done-requires : goal.grow-done-requires
-grow-done-requires c =
-    (
-      c.if-capacity-name.false,
-      (
-        c.requires.0,
-        c.loop-left.invariant.1,
-        omega (arith, c.loop-left.invariant.0, c.loop-left.invariant.2),
-        omega (arith, c.loop-left.invariant.0, c.requires.3),
-      ),
-    )
+grow-done-requires c = (
+  c.if-capacity-name.false,
+  (
+    c.requires.0,
+    c.loop-left.invariant.1,
+    omega (arith, c.loop-left.invariant.0, c.loop-left.invariant.2),
+    omega (arith, c.loop-left.invariant.0, c.requires.3),
+  ),
+)
 
 pub shape_of-t-then-done : goal.shape_of-t-then-done
 shape_of-t-then-done c =
@@ -161,32 +152,31 @@ loop-left-smaller c =
 -- on to the child, a level deeper
 pub loop-left-preserved : goal.loop-left-preserved
 unfolding main_insert_node main_insert_arm main_insert_way main_insert_child insert_on
-loop-left-preserved c =
-    (
-      search (rules, c.loop-left.invariant.0, c.grow-done),
-      c.child-at.ensures.small,
-      child-there _ _ _ _ _ c.child-at.ensures.is c.if-capacity-name.false c.requires.3,
-      rw (
-        ← c.loop-left.invariant.3,
-        insert_beneath♯-suc _ (positive _ c.loop-left-test.true),
-        ← c.load-a.ensures,
-        ← c.slot-name.ensures,
-        lt-leb _ _ c.if-capacity-name.false,
-        ← c.is_leaf.ensures,
-        c.if-is_leaf.false,
-        ← c.fork-fork.ensures.child,
-        ← c.fork-fork.ensures.sibling,
-        ← c.disagree.ensures,
-        c.if-disagree.false,
-        ← c.unbalances.ensures,
-        c.if-unbalances.false,
-        ← c.grow-done.ensures,
-        ne_eqb _ _ c.if-done.false,
-        ← c.deeper-base.ensures,
-        ← c.fork-fork.ensures.left,
-        ← c.child-at.ensures.is,
-      ),
-    )
+loop-left-preserved c = (
+  search (rules, c.loop-left.invariant.0, c.grow-done),
+  c.child-at.ensures.small,
+  child-there _ _ _ _ _ c.child-at.ensures.is c.if-capacity-name.false c.requires.3,
+  rw (
+    ← c.loop-left.invariant.3,
+    insert_beneath♯-suc _ (positive _ c.loop-left-test.true),
+    ← c.load-a.ensures,
+    ← c.slot-name.ensures,
+    lt-leb _ _ c.if-capacity-name.false,
+    ← c.is_leaf.ensures,
+    c.if-is_leaf.false,
+    ← c.fork-fork.ensures.child,
+    ← c.fork-fork.ensures.sibling,
+    ← c.disagree.ensures,
+    c.if-disagree.false,
+    ← c.unbalances.ensures,
+    c.if-unbalances.false,
+    ← c.grow-done.ensures,
+    ne_eqb _ _ c.if-done.false,
+    ← c.deeper-base.ensures,
+    ← c.fork-fork.ensures.left,
+    ← c.child-at.ensures.is,
+  ),
+)
 
 -- the levels are used up
 pub returns : goal.returns

@@ -1,16 +1,10 @@
 -- The loop keeps: as many words; the arm at the word `at` is there; the insertion that is left, from `at` and its level on with `left` levels, is the whole
 -- one. What falls: left.
-use native.Mathlib.Omega.{arith}
 use Prim.Native.Nat.{◌+◌, ◌<◌, ◌≤◌, ◌^◌}
 use mathlib.Core.Path.{◌≡◌}
 use lib.ListN.{length}
 use Rattle.geometry.specs.Values.{mark_value}
-use borrow.Author.Tests.{eq-eqb, ne_eqb, le-leb, lt-leb}
-use Rattle.primary_insert.specs.Insert.{insert_beneath♯, insert_beneath♯-suc, insert_beneath♯-zero}
-use Rattle.primary_insert.specs.Insert.{insert_on, main_insert_arm, main_insert_child, main_insert_node, main_insert_way}
-use borrow.Author.Rules.{rules}
-use Rattle.table.proofs.Fuel.{positive, nothing}
-use Rattle.primary_insert.proofs.Steps.{child-there}
+use Rattle.primary_insert.specs.Insert.{insert_beneath♯}
 use Rattle.table.specs.Layout.{arm_width}
 use Rattle.primary_insert.proofs.insert.insert_beneath.Given as goal
 

@@ -1,15 +1,7 @@
 -- The loop keeps: as many words; the arm at the word `at` is there; the insertion that is left, from `at` on with `left` levels, is the whole one. What falls:
 -- left.
 use native.Mathlib.Omega.{arith}
-use Prim.Native.Nat.{◌+◌, ◌<◌, ◌≤◌, ◌^◌}
-use mathlib.Core.Path.{◌≡◌}
-use mathlib.Core.Bool.{false}
-use lib.ListN.{length}
-use Rattle.model.specs.Sheet.{along_x}
-use Rattle.geometry.specs.Values.{mark_value}
-use Rattle.table.specs.Layout.{arm_width, main_place}
-use Rattle.table.specs.Limits.{deepest}
-use Rattle.secondary_update.specs.Insert.{insert_arm, insert_child, insert_node, insert_way, insert♯, insert♯-suc, insert♯-zero}
+use Rattle.secondary_update.specs.Insert.{insert_arm, insert_child, insert_node, insert_way, insert♯-suc, insert♯-zero}
 use Rattle.nodes.specs.Weights.{unbalances}
 use borrow.Author.Rules.{rules}
 use borrow.Author.Tests.{le-leb, lt-leb}
@@ -34,16 +26,15 @@ returns-then-capacity-name c =
     )
 
 pub split-requires : goal.split-requires
-split-requires c =
-    (
-      rw (← c.slot-name.ensures) c.if-capacity-name.false,
-      (
-        c.requires.0,
-        c.loop-left.invariant.1,
-        omega (arith, c.loop-left.invariant.0, c.loop-left.invariant.2),
-        omega (arith, c.loop-left.invariant.0, c.requires.3),
-      ),
-    )
+split-requires c = (
+  rw (← c.slot-name.ensures) c.if-capacity-name.false,
+  (
+    c.requires.0,
+    c.loop-left.invariant.1,
+    omega (arith, c.loop-left.invariant.0, c.loop-left.invariant.2),
+    omega (arith, c.loop-left.invariant.0, c.requires.3),
+  ),
+)
 
 -- a leaf
 pub returns-then-is_leaf : goal.returns-then-is_leaf
@@ -61,11 +52,10 @@ returns-then-is_leaf c =
     )
 
 pub fork-fork-requires : goal.fork-fork-requires
-fork-fork-requires c =
-    (
-      omega (arith, c.loop-left.invariant.0, c.requires.3, c.if-capacity-name.false),
-      omega (arith, c.loop-left.invariant.0, c.requires.3, c.if-capacity-name.false),
-    )
+fork-fork-requires c = (
+  omega (arith, c.loop-left.invariant.0, c.requires.3, c.if-capacity-name.false),
+  omega (arith, c.loop-left.invariant.0, c.requires.3, c.if-capacity-name.false),
+)
 
 -- the weights do not add up
 pub returns-then-disagree : goal.returns-then-disagree
@@ -96,29 +86,28 @@ loop-left-smaller c =
 -- on to the child
 pub loop-left-preserved : goal.loop-left-preserved
 unfolding insert_node insert_arm insert_way insert_child unbalances
-loop-left-preserved c =
-    (
-      search (rules, c.loop-left.invariant.0, c.store),
-      c.child-at.ensures.small,
-      child-there _ _ _ _ _ c.child-at.ensures.is c.if-capacity-name.false c.requires.3,
-      rw (
-        ← c.loop-left.invariant.3,
-        insert♯-suc _ (positive _ c.loop-left-test.true),
-        ← c.load-a.ensures,
-        ← c.slot-name.ensures,
-        lt-leb _ _ c.if-capacity-name.false,
-        ← c.is_leaf.ensures,
-        c.if-is_leaf.false,
-        ← c.fork-fork.ensures.child,
-        ← c.fork-fork.ensures.sibling,
-        ← c.disagree.ensures,
-        c.if-disagree.false,
-        ← c.grown.ensures,
-        ← c.store.ensures,
-        ← c.fork-fork.ensures.left,
-        ← c.child-at.ensures.is,
-      ),
-    )
+loop-left-preserved c = (
+  search (rules, c.loop-left.invariant.0, c.store),
+  c.child-at.ensures.small,
+  child-there _ _ _ _ _ c.child-at.ensures.is c.if-capacity-name.false c.requires.3,
+  rw (
+    ← c.loop-left.invariant.3,
+    insert♯-suc _ (positive _ c.loop-left-test.true),
+    ← c.load-a.ensures,
+    ← c.slot-name.ensures,
+    lt-leb _ _ c.if-capacity-name.false,
+    ← c.is_leaf.ensures,
+    c.if-is_leaf.false,
+    ← c.fork-fork.ensures.child,
+    ← c.fork-fork.ensures.sibling,
+    ← c.disagree.ensures,
+    c.if-disagree.false,
+    ← c.grown.ensures,
+    ← c.store.ensures,
+    ← c.fork-fork.ensures.left,
+    ← c.child-at.ensures.is,
+  ),
+)
 
 -- the levels are used up
 pub returns : goal.returns

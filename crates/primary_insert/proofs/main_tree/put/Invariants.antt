@@ -1,6 +1,5 @@
 -- The loop keeps: as many words; the arm at the word `at` is there; the insertion that is left, from `at` on with `left` levels, is the whole one. What falls:
 -- left.
-use native.Mathlib.Omega.{arith}
 use Prim.Native.Nat.{◌+◌, ◌<◌, ◌≤◌, ◌^◌}
 use mathlib.Core.Path.{◌≡◌}
 use mathlib.Core.Bool.{false}
@@ -9,12 +8,7 @@ use Rattle.model.specs.Sheet.{along_x}
 use Rattle.geometry.specs.Values.{mark_value}
 use Rattle.table.specs.Layout.{arm_width, main_place}
 use Rattle.table.specs.Limits.{deepest}
-use Rattle.secondary_update.specs.Insert.{insert_arm, insert_child, insert_node, insert_way, insert♯, insert♯-suc, insert♯-zero}
-use Rattle.nodes.specs.Weights.{unbalances}
-use borrow.Author.Rules.{rules}
-use borrow.Author.Tests.{le-leb, lt-leb}
-use Rattle.table.proofs.Fuel.{positive, nothing}
-use Rattle.primary_insert.proofs.Steps.{child-there}
+use Rattle.secondary_update.specs.Insert.{insert♯}
 use Rattle.primary_insert.proofs.main_tree.put.Given as goal
 
 abbrev pub invariant-loop-left : goal.invariant-loop-left

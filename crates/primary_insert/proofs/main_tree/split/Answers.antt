@@ -23,15 +23,15 @@ returns-then-below_x c =
       name = rw (← c.slot-name.ensures, ← c.load.ensures, ← c.below_x.ensures, c.if-below_x.true);
       slot = omega (arith, c.slot-name.ensures, c.requires.0);
       words = rw (
-          ← c.leaf-new.ensures,
-          ← c.slot-name.ensures,
-          ← c.load.ensures,
-          ← c.below_x.ensures,
-          c.if-below_x.true,
-          ← c.store.ensures,
-          ← c.over.ensures,
-          ← c.store-then-below_x.ensures,
-        );
+        ← c.leaf-new.ensures,
+        ← c.slot-name.ensures,
+        ← c.load.ensures,
+        ← c.below_x.ensures,
+        c.if-below_x.true,
+        ← c.store.ensures,
+        ← c.over.ensures,
+        ← c.store-then-below_x.ensures,
+      );
     }
 
 pub store-requires-2 : goal.store-requires-2
@@ -49,13 +49,13 @@ returns c =
       name = rw (← c.slot-name.ensures, ← c.load.ensures, ← c.below_x.ensures, c.if-below_x.false);
       slot = c.requires.1.0;
       words = rw (
-          ← c.leaf-new.ensures,
-          ← c.slot-name.ensures,
-          ← c.load.ensures,
-          ← c.below_x.ensures,
-          c.if-below_x.false,
-          ← c.store-2.ensures,
-          ← c.over-2.ensures,
-          ← c.store-3.ensures,
-        );
+        ← c.leaf-new.ensures,
+        ← c.slot-name.ensures,
+        ← c.load.ensures,
+        ← c.below_x.ensures,
+        c.if-below_x.false,
+        ← c.store-2.ensures,
+        ← c.over-2.ensures,
+        ← c.store-3.ensures,
+      );
     }

@@ -1,14 +1,8 @@
 -- The loop keeps: left ≤ deepest; low_from of left, base, node.0, tally.0 is that of deepest, level, node₀.0, (tally₀.0). What falls: left.
-use Prim.Native.Nat.{◌≤◌}
-use mathlib.Core.Path.{◌≡◌}
 use native.Mathlib.Omega.{arith}
 use borrow.Author.Rules.{rules}
-use Rattle.model.specs.Sheet.{along_x}
-use Rattle.geometry.specs.Values.{box_value}
-use Rattle.table.specs.Limits.{deepest}
-use Rattle.nodes.specs.Count.{side_along, low_record, low_node, low_from, low_from-zero, low_from-suc}
+use Rattle.nodes.specs.Count.{low_record, low_node, low_from-zero, low_from-suc}
 use Rattle.table.proofs.Fuel.{positive, nothing}
-use Rattle.primary_search.specs.Count.{main_kind}
 use borrow.Author.Tests.{le-leb, lt-leb}
 use Rattle.primary_search.proofs.count.from_low.Goals as goal
 
@@ -28,22 +22,21 @@ load-p-requires c = search (rules, c.if-capacity-s.false)
 
 pub loop-left-preserved-then-before_x : goal.loop-left-preserved-then-before_x
 unfolding low_node low_record
-loop-left-preserved-then-before_x c =
-    (
-      omega (arith, c.loop-left.invariant.0),
-      rw (
-        ← c.loop-left.invariant.1,
-        low_from-suc _ _ _ _ _ (positive _ c.loop-left-test.true),
-        ← c.slot-s.ensures,
-        lt-leb _ _ c.if-capacity-s.false,
-        ← c.load-p.ensures,
-        ← c.deeper-base.ensures,
-        ← c.before_x.ensures,
-        c.if-before_x.true,
-        ← c.before-then-before_x.ensures,
-        ← c.visit-tally.ensures,
-      ),
-    )
+loop-left-preserved-then-before_x c = (
+  omega (arith, c.loop-left.invariant.0),
+  rw (
+    ← c.loop-left.invariant.1,
+    low_from-suc _ _ _ _ _ (positive _ c.loop-left-test.true),
+    ← c.slot-s.ensures,
+    lt-leb _ _ c.if-capacity-s.false,
+    ← c.load-p.ensures,
+    ← c.deeper-base.ensures,
+    ← c.before_x.ensures,
+    c.if-before_x.true,
+    ← c.before-then-before_x.ensures,
+    ← c.visit-tally.ensures,
+  ),
+)
 
 pub returns-then-before_x-2 : goal.returns-then-before_x-2
 unfolding low_node low_record
@@ -65,24 +58,23 @@ returns-then-before_x-2 c =
 
 pub loop-left-preserved : goal.loop-left-preserved
 unfolding low_node low_record
-loop-left-preserved c =
-    (
-      omega (arith, c.loop-left.invariant.0),
-      rw (
-        ← c.loop-left.invariant.1,
-        low_from-suc _ _ _ _ _ (positive _ c.loop-left-test.true),
-        ← c.slot-s.ensures,
-        lt-leb _ _ c.if-capacity-s.false,
-        ← c.load-p.ensures,
-        ← c.deeper-base.ensures,
-        ← c.before_x.ensures,
-        c.if-before_x.false,
-        ← c.handed-tally.ensures,
-        ← c.before_x-else-before_x.ensures,
-        c.if-before_x-2.false,
-        ← c.visit-tally-else-before_x.ensures,
-      ),
-    )
+loop-left-preserved c = (
+  omega (arith, c.loop-left.invariant.0),
+  rw (
+    ← c.loop-left.invariant.1,
+    low_from-suc _ _ _ _ _ (positive _ c.loop-left-test.true),
+    ← c.slot-s.ensures,
+    lt-leb _ _ c.if-capacity-s.false,
+    ← c.load-p.ensures,
+    ← c.deeper-base.ensures,
+    ← c.before_x.ensures,
+    c.if-before_x.false,
+    ← c.handed-tally.ensures,
+    ← c.before_x-else-before_x.ensures,
+    c.if-before_x-2.false,
+    ← c.visit-tally-else-before_x.ensures,
+  ),
+)
 
 pub returns : goal.returns
 unfolding low_node low_record

@@ -1,4 +1,3 @@
-use borrow.Author.Rules.{rules}
 use Rattle.nodes.specs.Count.{high_end}
 use Rattle.primary_search.proofs.count.high_end.Goals as goal
 

@@ -1,4 +1,3 @@
-use borrow.Author.Rules.{rules}
 use Rattle.primary_search.specs.Count.{leaf♯}
 use Rattle.primary_search.proofs.count.leaf.Goals as goal
 

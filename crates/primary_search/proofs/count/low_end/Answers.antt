@@ -1,4 +1,3 @@
-use borrow.Author.Rules.{rules}
 use Rattle.nodes.specs.Count.{low_end}
 use Rattle.primary_search.proofs.count.low_end.Goals as goal
 

@@ -1,14 +1,8 @@
 -- The loop keeps: left ≤ deepest; open_from of left, base, node.0, tally.0 is that of deepest, level, node₀.0, (tally₀.0). What falls: left.
-use Prim.Native.Nat.{◌≤◌}
-use mathlib.Core.Path.{◌≡◌}
 use native.Mathlib.Omega.{arith}
 use borrow.Author.Rules.{rules}
-use Rattle.model.specs.Sheet.{along_x}
-use Rattle.geometry.specs.Values.{box_value}
-use Rattle.table.specs.Limits.{deepest}
-use Rattle.nodes.specs.Count.{side_along, open_record, open_node, open_from, open_from-zero, open_from-suc}
+use Rattle.nodes.specs.Count.{open_record, open_node, open_from-zero, open_from-suc}
 use Rattle.table.proofs.Fuel.{positive, nothing}
-use Rattle.primary_search.specs.Count.{main_kind}
 use borrow.Author.Tests.{le-leb, lt-leb}
 use Rattle.primary_search.proofs.count.opened.Goals as goal
 
@@ -28,43 +22,41 @@ load-p-requires c = search (rules, c.if-capacity-s.false)
 
 pub loop-left-preserved-then-before_x : goal.loop-left-preserved-then-before_x
 unfolding open_node open_record
-loop-left-preserved-then-before_x c =
-    (
-      omega (arith, c.loop-left.invariant.0),
-      rw (
-        ← c.loop-left.invariant.1,
-        open_from-suc _ _ _ _ _ (positive _ c.loop-left-test.true),
-        ← c.slot-s.ensures,
-        lt-leb _ _ c.if-capacity-s.false,
-        ← c.load-p.ensures,
-        ← c.deeper-base.ensures,
-        ← c.before_x.ensures,
-        c.if-before_x.true,
-        ← c.before-then-before_x.ensures,
-        ← c.visit-tally.ensures,
-      ),
-    )
+loop-left-preserved-then-before_x c = (
+  omega (arith, c.loop-left.invariant.0),
+  rw (
+    ← c.loop-left.invariant.1,
+    open_from-suc _ _ _ _ _ (positive _ c.loop-left-test.true),
+    ← c.slot-s.ensures,
+    lt-leb _ _ c.if-capacity-s.false,
+    ← c.load-p.ensures,
+    ← c.deeper-base.ensures,
+    ← c.before_x.ensures,
+    c.if-before_x.true,
+    ← c.before-then-before_x.ensures,
+    ← c.visit-tally.ensures,
+  ),
+)
 
 pub loop-left-preserved : goal.loop-left-preserved
 unfolding open_node open_record
-loop-left-preserved c =
-    (
-      omega (arith, c.loop-left.invariant.0),
-      rw (
-        ← c.loop-left.invariant.1,
-        open_from-suc _ _ _ _ _ (positive _ c.loop-left-test.true),
-        ← c.slot-s.ensures,
-        lt-leb _ _ c.if-capacity-s.false,
-        ← c.load-p.ensures,
-        ← c.deeper-base.ensures,
-        ← c.before_x.ensures,
-        c.if-before_x.false,
-        ← c.past_x.ensures,
-        c.if-past_x.true,
-        ← c.past.ensures,
-        ← c.visit-tally-then-past_x.ensures,
-      ),
-    )
+loop-left-preserved c = (
+  omega (arith, c.loop-left.invariant.0),
+  rw (
+    ← c.loop-left.invariant.1,
+    open_from-suc _ _ _ _ _ (positive _ c.loop-left-test.true),
+    ← c.slot-s.ensures,
+    lt-leb _ _ c.if-capacity-s.false,
+    ← c.load-p.ensures,
+    ← c.deeper-base.ensures,
+    ← c.before_x.ensures,
+    c.if-before_x.false,
+    ← c.past_x.ensures,
+    c.if-past_x.true,
+    ← c.past.ensures,
+    ← c.visit-tally-then-past_x.ensures,
+  ),
+)
 
 pub returns-else-past_x : goal.returns-else-past_x
 unfolding open_node open_record

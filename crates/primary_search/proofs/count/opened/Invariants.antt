@@ -1,15 +1,11 @@
 -- The loop keeps: left ≤ deepest; open_from of left, base, node.0, tally.0 is that of deepest, level, node₀.0, (tally₀.0). What falls: left.
 use Prim.Native.Nat.{◌≤◌}
 use mathlib.Core.Path.{◌≡◌}
-use native.Mathlib.Omega.{arith}
-use borrow.Author.Rules.{rules}
 use Rattle.model.specs.Sheet.{along_x}
 use Rattle.geometry.specs.Values.{box_value}
 use Rattle.table.specs.Limits.{deepest}
-use Rattle.nodes.specs.Count.{side_along, open_record, open_node, open_from, open_from-zero, open_from-suc}
-use Rattle.table.proofs.Fuel.{positive, nothing}
+use Rattle.nodes.specs.Count.{side_along, open_from}
 use Rattle.primary_search.specs.Count.{main_kind}
-use borrow.Author.Tests.{le-leb, lt-leb}
 use Rattle.primary_search.proofs.count.opened.Given as goal
 
 abbrev pub invariant-loop-left : goal.invariant-loop-left

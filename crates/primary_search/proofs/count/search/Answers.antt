@@ -3,7 +3,6 @@ use Rattle.nodes.specs.Count.{count_tree}
 use borrow.Author.Tests.{le-leb, lt-leb}
 use Rattle.primary_search.specs.Count.{handed♯, main_search♯}
 use borrow.Author.Rules.{rules}
-use mathlib.Core.Logic.{⊎_elim}
 use Rattle.primary_search.proofs.count.search.Goals as goal
 use Rattle.primary_search.proofs.count.search.Goals.{then-before_x+else-before_x-2, else-before_x+then-past_x+else-past_x-2}
 
@@ -79,32 +78,32 @@ pub returns : goal.returns
 unfolding main_search♯ count_tree
 returns c =
     elim c.if-before_x.branch [
-      then-before_x+else-before_x-2 w ↦ rw (
-      ← c.slot-s.ensures,
-      lt-leb _ _ c.if-capacity-s.false,
-      ← c.is_leaf.ensures,
-      c.if-is_leaf.false,
-      ← c.before_x.ensures,
-      w.if-before_x.true,
-      ← w.before_x-then-before_x.ensures,
-      w.if-before_x-2.false,
-      c.opened.ensures,
-      c.visit.ensures,
-      c.none-2.ensures,
-    )
-    | else-before_x+then-past_x+else-past_x-2 w ↦ rw (
-      ← c.slot-s.ensures,
-      lt-leb _ _ c.if-capacity-s.false,
-      ← c.is_leaf.ensures,
-      c.if-is_leaf.false,
-      ← c.before_x.ensures,
-      w.if-before_x.false,
-      ← w.past_x.ensures,
-      w.if-past_x.true,
-      ← w.past_x-then-past_x.ensures,
-      w.if-past_x-2.false,
-      c.opened.ensures,
-      c.visit.ensures,
-      c.none-2.ensures,
-    )
+      | then-before_x+else-before_x-2 w ↦ rw (
+        ← c.slot-s.ensures,
+        lt-leb _ _ c.if-capacity-s.false,
+        ← c.is_leaf.ensures,
+        c.if-is_leaf.false,
+        ← c.before_x.ensures,
+        w.if-before_x.true,
+        ← w.before_x-then-before_x.ensures,
+        w.if-before_x-2.false,
+        c.opened.ensures,
+        c.visit.ensures,
+        c.none-2.ensures,
+      )
+      | else-before_x+then-past_x+else-past_x-2 w ↦ rw (
+        ← c.slot-s.ensures,
+        lt-leb _ _ c.if-capacity-s.false,
+        ← c.is_leaf.ensures,
+        c.if-is_leaf.false,
+        ← c.before_x.ensures,
+        w.if-before_x.false,
+        ← w.past_x.ensures,
+        w.if-past_x.true,
+        ← w.past_x-then-past_x.ensures,
+        w.if-past_x-2.false,
+        c.opened.ensures,
+        c.visit.ensures,
+        c.none-2.ensures,
+      )
     ]

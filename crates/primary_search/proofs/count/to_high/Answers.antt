@@ -1,14 +1,8 @@
 -- The loop keeps: left ≤ deepest; high_from of left, base, node.0, tally.0 is that of deepest, level, node₀.0, (tally₀.0). What falls: left.
-use Prim.Native.Nat.{◌≤◌}
-use mathlib.Core.Path.{◌≡◌}
 use native.Mathlib.Omega.{arith}
 use borrow.Author.Rules.{rules}
-use Rattle.model.specs.Sheet.{along_x}
-use Rattle.geometry.specs.Values.{box_value}
-use Rattle.table.specs.Limits.{deepest}
-use Rattle.nodes.specs.Count.{side_along, high_record, high_node, high_from, high_from-zero, high_from-suc}
+use Rattle.nodes.specs.Count.{high_record, high_node, high_from-zero, high_from-suc}
 use Rattle.table.proofs.Fuel.{positive, nothing}
-use Rattle.primary_search.specs.Count.{main_kind}
 use borrow.Author.Tests.{le-leb, lt-leb}
 use Rattle.primary_search.proofs.count.to_high.Goals as goal
 
@@ -28,22 +22,21 @@ load-p-requires c = search (rules, c.if-capacity-s.false)
 
 pub loop-left-preserved-then-past_x : goal.loop-left-preserved-then-past_x
 unfolding high_node high_record
-loop-left-preserved-then-past_x c =
-    (
-      omega (arith, c.loop-left.invariant.0),
-      rw (
-        ← c.loop-left.invariant.1,
-        high_from-suc _ _ _ _ _ (positive _ c.loop-left-test.true),
-        ← c.slot-s.ensures,
-        lt-leb _ _ c.if-capacity-s.false,
-        ← c.load-p.ensures,
-        ← c.deeper-base.ensures,
-        ← c.past_x.ensures,
-        c.if-past_x.true,
-        ← c.past.ensures,
-        ← c.visit-tally.ensures,
-      ),
-    )
+loop-left-preserved-then-past_x c = (
+  omega (arith, c.loop-left.invariant.0),
+  rw (
+    ← c.loop-left.invariant.1,
+    high_from-suc _ _ _ _ _ (positive _ c.loop-left-test.true),
+    ← c.slot-s.ensures,
+    lt-leb _ _ c.if-capacity-s.false,
+    ← c.load-p.ensures,
+    ← c.deeper-base.ensures,
+    ← c.past_x.ensures,
+    c.if-past_x.true,
+    ← c.past.ensures,
+    ← c.visit-tally.ensures,
+  ),
+)
 
 pub returns-then-past_x-2 : goal.returns-then-past_x-2
 unfolding high_node high_record
@@ -65,24 +58,23 @@ returns-then-past_x-2 c =
 
 pub loop-left-preserved : goal.loop-left-preserved
 unfolding high_node high_record
-loop-left-preserved c =
-    (
-      omega (arith, c.loop-left.invariant.0),
-      rw (
-        ← c.loop-left.invariant.1,
-        high_from-suc _ _ _ _ _ (positive _ c.loop-left-test.true),
-        ← c.slot-s.ensures,
-        lt-leb _ _ c.if-capacity-s.false,
-        ← c.load-p.ensures,
-        ← c.deeper-base.ensures,
-        ← c.past_x.ensures,
-        c.if-past_x.false,
-        ← c.handed-tally.ensures,
-        ← c.past_x-else-past_x.ensures,
-        c.if-past_x-2.false,
-        ← c.visit-tally-else-past_x.ensures,
-      ),
-    )
+loop-left-preserved c = (
+  omega (arith, c.loop-left.invariant.0),
+  rw (
+    ← c.loop-left.invariant.1,
+    high_from-suc _ _ _ _ _ (positive _ c.loop-left-test.true),
+    ← c.slot-s.ensures,
+    lt-leb _ _ c.if-capacity-s.false,
+    ← c.load-p.ensures,
+    ← c.deeper-base.ensures,
+    ← c.past_x.ensures,
+    c.if-past_x.false,
+    ← c.handed-tally.ensures,
+    ← c.past_x-else-past_x.ensures,
+    c.if-past_x-2.false,
+    ← c.visit-tally-else-past_x.ensures,
+  ),
+)
 
 pub returns : goal.returns
 unfolding high_node high_record

@@ -1,4 +1,3 @@
-use borrow.Author.Rules.{rules}
 use borrow.Author.Tests.{eq-eqb, ne_eqb}
 use Rattle.primary_search.specs.Find.{find_root}
 use Rattle.primary_search.proofs.find.find.Goals as goal

@@ -1,13 +1,9 @@
 -- The loop keeps: left ≤ deepest; find_beneath♯ of left, node.0 is that of deepest, (node₀.0). What falls: left.
 use Rattle.table.proofs.Fuel.{positive, nothing}
-use Prim.Native.Nat.{◌≤◌}
-use mathlib.Core.Path.{◌≡◌}
 use native.Mathlib.Omega.{arith}
 use borrow.Author.Rules.{rules}
 use borrow.Author.Tests.{le-leb, lt-leb}
-use Rattle.geometry.specs.Values.{mark_value}
-use Rattle.table.specs.Limits.{deepest}
-use Rattle.primary_search.specs.Find.{find_leaf, find_node, find_beneath♯, find_beneath♯-zero, find_beneath♯-suc}
+use Rattle.primary_search.specs.Find.{find_leaf, find_node, find_beneath♯-zero, find_beneath♯-suc}
 use Rattle.primary_search.proofs.find.find_beneath.Goals as goal
 
 pub returns-then-capacity-s : goal.returns-then-capacity-s
@@ -59,41 +55,39 @@ load-p-requires c =
 
 pub loop-left-preserved-then-below_x : goal.loop-left-preserved-then-below_x
 unfolding find_node
-loop-left-preserved-then-below_x c =
-    (
-      omega (arith, c.loop-left.invariant.0),
-      rw (
-        ← c.loop-left.invariant.1,
-        find_beneath♯-suc _ (positive _ c.loop-left-test.true),
-        ← c.slot-s.ensures,
-        lt-leb _ _ c.if-capacity-s.false,
-        ← c.load-here.ensures,
-        ← c.is_leaf.ensures,
-        c.if-is_leaf.false,
-        ← c.load-p.ensures,
-        ← c.below_x.ensures,
-        c.if-below_x.true,
-      ),
-    )
+loop-left-preserved-then-below_x c = (
+  omega (arith, c.loop-left.invariant.0),
+  rw (
+    ← c.loop-left.invariant.1,
+    find_beneath♯-suc _ (positive _ c.loop-left-test.true),
+    ← c.slot-s.ensures,
+    lt-leb _ _ c.if-capacity-s.false,
+    ← c.load-here.ensures,
+    ← c.is_leaf.ensures,
+    c.if-is_leaf.false,
+    ← c.load-p.ensures,
+    ← c.below_x.ensures,
+    c.if-below_x.true,
+  ),
+)
 
 pub loop-left-preserved : goal.loop-left-preserved
 unfolding find_node
-loop-left-preserved c =
-    (
-      omega (arith, c.loop-left.invariant.0),
-      rw (
-        ← c.loop-left.invariant.1,
-        find_beneath♯-suc _ (positive _ c.loop-left-test.true),
-        ← c.slot-s.ensures,
-        lt-leb _ _ c.if-capacity-s.false,
-        ← c.load-here.ensures,
-        ← c.is_leaf.ensures,
-        c.if-is_leaf.false,
-        ← c.load-p.ensures,
-        ← c.below_x.ensures,
-        c.if-below_x.false,
-      ),
-    )
+loop-left-preserved c = (
+  omega (arith, c.loop-left.invariant.0),
+  rw (
+    ← c.loop-left.invariant.1,
+    find_beneath♯-suc _ (positive _ c.loop-left-test.true),
+    ← c.slot-s.ensures,
+    lt-leb _ _ c.if-capacity-s.false,
+    ← c.load-here.ensures,
+    ← c.is_leaf.ensures,
+    c.if-is_leaf.false,
+    ← c.load-p.ensures,
+    ← c.below_x.ensures,
+    c.if-below_x.false,
+  ),
+)
 
 pub returns : goal.returns
 unfolding find_node find_leaf

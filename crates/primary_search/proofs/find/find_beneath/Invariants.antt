@@ -1,13 +1,9 @@
 -- The loop keeps: left ≤ deepest; find_beneath♯ of left, node.0 is that of deepest, (node₀.0). What falls: left.
-use Rattle.table.proofs.Fuel.{positive, nothing}
 use Prim.Native.Nat.{◌≤◌}
 use mathlib.Core.Path.{◌≡◌}
-use native.Mathlib.Omega.{arith}
-use borrow.Author.Rules.{rules}
-use borrow.Author.Tests.{le-leb, lt-leb}
 use Rattle.geometry.specs.Values.{mark_value}
 use Rattle.table.specs.Limits.{deepest}
-use Rattle.primary_search.specs.Find.{find_leaf, find_node, find_beneath♯, find_beneath♯-zero, find_beneath♯-suc}
+use Rattle.primary_search.specs.Find.{find_beneath♯}
 use Rattle.primary_search.proofs.find.find_beneath.Given as goal
 
 abbrev pub invariant-loop-left : goal.invariant-loop-left

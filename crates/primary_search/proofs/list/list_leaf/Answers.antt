@@ -1,4 +1,3 @@
-use borrow.Author.Rules.{rules}
 use Rattle.primary_search.specs.List.{list_mark, list_leaf♯}
 use Rattle.primary_search.proofs.list.list_leaf.Goals as goal
 

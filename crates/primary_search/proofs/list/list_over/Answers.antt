@@ -1,4 +1,3 @@
-use borrow.Author.Rules.{rules}
 use Rattle.primary_search.specs.List.{list_over♯}
 use Rattle.primary_search.proofs.list.list_over.Goals as goal
 

@@ -1,6 +1,5 @@
 use mathlib.Core.Bool.{true≢false}
 use borrow.Author.Tests.{le-leb, lt-leb, leb-false}
-use borrow.Author.Rules.{rules}
 use Rattle.primary_search.specs.List.{stops}
 use Rattle.primary_search.proofs.list.stops.Goals as goal
 

@@ -1,4 +1,3 @@
-use borrow.Author.Rules.{rules}
 use Rattle.primary_strike.specs.Strike.{lifted♯}
 use Rattle.primary_strike.proofs.strike.lifted.Goals as goal
 

@@ -1,4 +1,3 @@
-use borrow.Author.Rules.{rules}
 use borrow.Author.Tests.{eq-eqb, ne_eqb}
 use Rattle.primary_strike.specs.Strike.{main_strike♯, put_struck, strike_root}
 use Rattle.primary_strike.proofs.strike.strike.Goals as goal

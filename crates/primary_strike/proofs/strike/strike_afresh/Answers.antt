@@ -1,4 +1,3 @@
-use borrow.Author.Rules.{rules}
 use Rattle.primary_strike.specs.Strike.{struck_afresh♯, struck_fresh}
 use Rattle.primary_strike.proofs.strike.strike_afresh.Goals as goal
 

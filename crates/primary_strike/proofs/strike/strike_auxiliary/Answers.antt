@@ -1,4 +1,3 @@
-use borrow.Author.Rules.{rules}
 use Rattle.primary_strike.specs.Strike.{arm_only, struck_auxiliary♯}
 use Rattle.primary_strike.proofs.strike.strike_auxiliary.Goals as goal
 

@@ -1,4 +1,3 @@
-use borrow.Author.Rules.{rules}
 use borrow.Author.Tests.{eq-eqb, ne_eqb}
 use Rattle.primary_strike.specs.Strike.{main_node_over}
 use Rattle.secondary_update.specs.Strike.{strike_over}

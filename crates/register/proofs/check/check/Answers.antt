@@ -2,7 +2,6 @@ use mathlib.Core.Path.{sym, ◌∙◌}
 use native.Mathlib.Omega.{arith}
 use Rattle.register.proofs.Own.{own-fits}
 use Rattle.register.proofs.Reading.{check-not-table, check-unsound, check_sound}
-use borrow.Author.Rules.{rules}
 use Rattle.register.proofs.check.check.Goals as goal
 
 pub returns-then-own-eq0 : goal.returns-then-own-eq0

@@ -1,5 +1,4 @@
 use Rattle.register.proofs.Reading.{count-performs}
-use borrow.Author.Rules.{rules}
 use Rattle.register.proofs.count.count.Goals as goal
 
 pub returns : goal.returns

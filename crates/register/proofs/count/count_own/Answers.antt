@@ -1,6 +1,5 @@
 -- `count_own` meets its contract: the visits and the marks of the tally are tested before they are told. Assumes nothing.
 use Rattle.register.proofs.Branches.{count-read}
-use borrow.Author.Rules.{rules}
 use borrow.Author.Tests.{lt-ltb, le-ltb}
 use Rattle.register.specs.Mirrors.{count_own♯, tallied}
 use Rattle.register.proofs.count.count_own.Goals as goal

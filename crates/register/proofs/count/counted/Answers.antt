@@ -4,7 +4,6 @@ use native.Mathlib.Omega.{arith}
 use Rattle.geometry.specs.Values.{box_outcome}
 use Rattle.register.proofs.Own.{own-fits, part-capacity, part-live}
 use Rattle.register.proofs.Branches.{count-not-table, count-crossed, count-own}
-use borrow.Author.Rules.{rules}
 use Rattle.register.proofs.count.counted.Goals as goal
 
 pub returns-then-words-eq0 : goal.returns-then-words-eq0

@@ -1,5 +1,4 @@
 use Rattle.register.proofs.Updating.{insert-performs}
-use borrow.Author.Rules.{rules}
 use Rattle.register.proofs.insert.insert.Goals as goal
 
 pub returns : goal.returns

@@ -1,7 +1,6 @@
 use borrow.Author.Tests.{eq-eqb, ne_eqb}
 use Rattle.register.specs.Mirrors.{insert_own♯, insert_found, settled_after}
 use Rattle.register.proofs.Branches.{find-read}
-use borrow.Author.Rules.{rules}
 use Rattle.register.proofs.insert.insert_own.Goals as goal
 
 pub returns-then-s : goal.returns-then-s

@@ -5,7 +5,6 @@ use native.Mathlib.Omega.{arith}
 use Rattle.geometry.specs.Values.{mark_outcome}
 use Rattle.register.proofs.Own.{own-fits, part-capacity}
 use Rattle.register.proofs.Branches.{update-not-table, update-refused, update-own}
-use borrow.Author.Rules.{rules}
 use Rattle.register.proofs.insert.inserted.Goals as goal
 
 pub returns-then-words-eq0 : goal.returns-then-words-eq0

@@ -1,5 +1,4 @@
 use Rattle.register.proofs.Listing.{list-performs}
-use borrow.Author.Rules.{rules}
 use Rattle.register.proofs.list.list.Goals as goal
 
 pub returns : goal.returns

@@ -1,5 +1,4 @@
 use Rattle.register.proofs.Branches.{list_read, list-marks}
-use borrow.Author.Rules.{rules}
 use Rattle.register.proofs.list.list_marks.Goals as goal
 
 pub returns : goal.returns

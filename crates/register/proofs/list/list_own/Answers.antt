@@ -3,7 +3,6 @@ use Rattle.register.proofs.Branches.{count-read, list-lost, list-many, list-shor
 use mathlib.Core.Path.{refl}
 use native.Mathlib.Omega.{arith}
 use mathlib.Core.Logic.{inl, inr}
-use borrow.Author.Rules.{rules}
 use Rattle.register.proofs.list.list_own.Goals as goal
 
 pub returns-then-most-visits : goal.returns-then-most-visits
@@ -26,14 +25,13 @@ returns-then-second-words c =
     c.found-k.ensures c.if-most-visits.false (omega (arith, c.requires.1, c.if-live-k.false)) (inr c.if-second-words.true)
 
 pub list_marks-requires : goal.list_marks-requires
-list_marks-requires c =
-    (
-      c.requires.0,
-      c.requires.3,
-      omega (arith, c.requires.2, c.if-live-k.false),
-      c.if-first-words.false,
-      c.if-second-words.false,
-    )
+list_marks-requires c = (
+  c.requires.0,
+  c.requires.3,
+  omega (arith, c.requires.2, c.if-live-k.false),
+  c.if-first-words.false,
+  c.if-second-words.false,
+)
 
 pub returns : goal.returns
 returns c =

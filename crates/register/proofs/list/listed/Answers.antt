@@ -5,7 +5,6 @@ use Rattle.table.proofs.Own.{own-visits-few}
 use Rattle.geometry.specs.Values.{box_outcome}
 use native.Mathlib.Omega.{arith}
 use mathlib.Core.Path.{sym, ap, ◌∙◌}
-use borrow.Author.Rules.{rules}
 use Rattle.register.proofs.list.listed.Goals as goal
 
 pub returns-then-words-eq0 : goal.returns-then-words-eq0

@@ -1,6 +1,5 @@
 use Rattle.table.specs.After.{after}
 use Rattle.register.proofs.Opening.{open-performs}
-use borrow.Author.Rules.{rules}
 use Rattle.register.proofs.open.open.Goals as goal
 
 pub returns : goal.returns

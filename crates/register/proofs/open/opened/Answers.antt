@@ -2,7 +2,6 @@ use Rattle.register.proofs.Own.{open-fits, open-room}
 use Rattle.register.proofs.Branches.{open-refused, open_own}
 use Rattle.sizes.specs.Sizes.{opening_outcome}
 use mathlib.Core.Path.{sym, ap, ◌∙◌}
-use borrow.Author.Rules.{rules}
 use Rattle.register.proofs.open.opened.Goals as goal
 
 pub slice_bounds-empty-end : goal.slice_bounds-empty-end

@@ -1,5 +1,4 @@
 use Rattle.register.proofs.Updating.{strike-performs}
-use borrow.Author.Rules.{rules}
 use Rattle.register.proofs.strike.strike.Goals as goal
 
 pub returns : goal.returns

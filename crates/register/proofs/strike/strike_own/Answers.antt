@@ -1,5 +1,4 @@
 use Rattle.register.proofs.Branches.{find-read, slot_read}
-use borrow.Author.Rules.{rules}
 use borrow.Author.Tests.{eq-eqb, ne_eqb}
 use Rattle.register.specs.Mirrors.{settled_after, strike_found, strike_own♯}
 use Rattle.register.proofs.strike.strike_own.Goals as goal

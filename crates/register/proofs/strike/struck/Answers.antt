@@ -4,7 +4,6 @@ use Rattle.register.specs.Mirrors.{strike♯, strike_own♯}
 use native.Mathlib.Omega.{arith}
 use Rattle.register.proofs.Own.{own-fits, part-capacity}
 use Rattle.register.proofs.Branches.{update-not-table, update-refused, update-own}
-use borrow.Author.Rules.{rules}
 use Rattle.register.proofs.strike.struck.Goals as goal
 
 pub returns-then-words-eq0 : goal.returns-then-words-eq0

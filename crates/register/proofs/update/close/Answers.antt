@@ -1,5 +1,4 @@
 use Rattle.register.specs.Mirrors.{closed♯}
-use borrow.Author.Rules.{rules}
 use Rattle.register.proofs.update.close.Goals as goal
 
 pub returns : goal.returns

@@ -1,6 +1,5 @@
 use Rattle.register.specs.Mirrors.{settled♯}
 use borrow.Author.Tests.{eq-eqb, ne_eqb}
-use borrow.Author.Rules.{rules}
 use Rattle.register.proofs.update.settle.Goals as goal
 
 pub returns-then-rebuilt-eq-DAMAGED : goal.returns-then-rebuilt-eq-DAMAGED

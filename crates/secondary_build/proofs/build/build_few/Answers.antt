@@ -1,4 +1,3 @@
-use borrow.Author.Rules.{rules}
 use Rattle.secondary_build.proofs.Few.{build♯-three, build_three}
 use Rattle.secondary_build.specs.Build.{build♯-leaf}
 use Prim.Native.Nat.{ℕ, ◌≤◌, ◌<◌}

@@ -1,4 +1,3 @@
-use borrow.Author.Rules.{rules}
 use Rattle.secondary_build.proofs.Few.{build♯-two}
 use Rattle.secondary_build.proofs.build.build_two.Goals as goal
 

@@ -1,4 +1,3 @@
-use borrow.Author.Rules.{rules}
 use Rattle.secondary_build.specs.Build.{run_leaf}
 use Rattle.secondary_build.proofs.build.leaf.Goals as goal
 

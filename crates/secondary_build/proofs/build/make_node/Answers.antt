@@ -1,4 +1,3 @@
-use borrow.Author.Rules.{rules}
 use Rattle.secondary_build.specs.Build.{build_over}
 use Rattle.secondary_build.proofs.build.make_node.Goals as goal
 

@@ -1,6 +1,4 @@
 use Rattle.nodes.specs.Count.{count_tree}
-use borrow.Author.Rules.{rules}
-use mathlib.Core.Logic.{⊎_elim}
 use Rattle.secondary_search.proofs.count.count.Goals as goal
 use Rattle.secondary_search.proofs.count.count.Goals.{then-before_y+else-before_y-2, else-before_y+then-past_y+else-past_y-2}
 
@@ -43,7 +41,7 @@ pub returns : goal.returns
 unfolding count_tree
 returns c =
     elim c.if-before_y.branch [
-      then-before_y+else-before_y-2 w ↦ rw (
+      | then-before_y+else-before_y-2 w ↦ rw (
         ← c.before_y.ensures,
         w.if-before_y.true,
         ← w.before_y-then-before_y.ensures,
@@ -51,7 +49,7 @@ returns c =
         ← c.visit.ensures,
         ← c.opened.ensures,
       )
-    | else-before_y+then-past_y+else-past_y-2 w ↦ rw (
+      | else-before_y+then-past_y+else-past_y-2 w ↦ rw (
         ← c.before_y.ensures,
         w.if-before_y.false,
         ← w.past_y.ensures,

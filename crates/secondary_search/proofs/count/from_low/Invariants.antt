@@ -1,15 +1,11 @@
 -- The loop keeps: left ≤ deepest; low_from of left, node, tally is that of deepest, node₀, tally₀. What falls: left.
 use Prim.Native.Nat.{◌≤◌}
 use mathlib.Core.Path.{◌≡◌}
-use native.Mathlib.Omega.{arith}
-use borrow.Author.Rules.{rules}
 use Rattle.model.specs.Sheet.{along_y}
 use Rattle.geometry.specs.Values.{box_value}
 use Rattle.table.specs.Limits.{deepest}
-use Rattle.nodes.specs.Count.{side_along, low_record, low_node, low_from, low_from-zero, low_from-suc}
-use Rattle.table.proofs.Fuel.{positive, nothing}
+use Rattle.nodes.specs.Count.{side_along, low_from}
 use Rattle.secondary_search.specs.Count.{auxiliary_kind, records}
-use Rattle.secondary_search.proofs.Lent.{past_end, before-end, record-there}
 use Rattle.secondary_search.proofs.count.from_low.Given as goal
 
 abbrev pub invariant-loop-left : goal.invariant-loop-left

@@ -1,5 +1,4 @@
 use Rattle.nodes.specs.Count.{high_end}
-use borrow.Author.Rules.{rules}
 use Rattle.secondary_search.proofs.count.high_end.Goals as goal
 
 pub returns-then-past_y : goal.returns-then-past_y

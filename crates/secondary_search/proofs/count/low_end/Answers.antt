@@ -1,5 +1,4 @@
 use Rattle.nodes.specs.Count.{low_end}
-use borrow.Author.Rules.{rules}
 use Rattle.secondary_search.proofs.count.low_end.Goals as goal
 
 pub returns-then-before_y : goal.returns-then-before_y

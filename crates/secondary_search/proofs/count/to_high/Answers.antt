@@ -1,14 +1,8 @@
 -- The loop keeps: left ≤ deepest; high_from of left, node, tally is that of deepest, node₀, tally₀. What falls: left.
-use Prim.Native.Nat.{◌≤◌}
-use mathlib.Core.Path.{◌≡◌}
 use native.Mathlib.Omega.{arith}
-use borrow.Author.Rules.{rules}
-use Rattle.model.specs.Sheet.{along_y}
-use Rattle.geometry.specs.Values.{box_value}
-use Rattle.table.specs.Limits.{deepest}
-use Rattle.nodes.specs.Count.{side_along, high_record, high_node, high_from, high_from-zero, high_from-suc}
+use Rattle.nodes.specs.Count.{high_record, high_node, high_from-zero, high_from-suc}
 use Rattle.table.proofs.Fuel.{positive, nothing}
-use Rattle.secondary_search.specs.Count.{auxiliary_kind, records}
+use Rattle.secondary_search.specs.Count.{auxiliary_kind}
 use Rattle.secondary_search.proofs.Lent.{past_end, before-end, record-there}
 use Rattle.secondary_search.proofs.count.to_high.Goals as goal
 
@@ -28,21 +22,20 @@ read-p-requires c =
 
 pub loop-left-preserved-then-past_y : goal.loop-left-preserved-then-past_y
 unfolding high_node high_record
-loop-left-preserved-then-past_y c =
-    (
-      omega (arith, c.loop-left.invariant.0),
-      rw (
-        ← c.loop-left.invariant.1,
-        high_from-suc auxiliary_kind _ _ _ _ (positive _ c.loop-left-test.true),
-        before-end _ _ _ c.requires c.place-at.ensures c.if-t-at.false,
-        ← c.place-at.ensures,
-        ← c.read-p.ensures,
-        ← c.past_y.ensures,
-        c.if-past_y.true,
-        ← c.past.ensures,
-        ← c.visit-tally.ensures,
-      ),
-    )
+loop-left-preserved-then-past_y c = (
+  omega (arith, c.loop-left.invariant.0),
+  rw (
+    ← c.loop-left.invariant.1,
+    high_from-suc auxiliary_kind _ _ _ _ (positive _ c.loop-left-test.true),
+    before-end _ _ _ c.requires c.place-at.ensures c.if-t-at.false,
+    ← c.place-at.ensures,
+    ← c.read-p.ensures,
+    ← c.past_y.ensures,
+    c.if-past_y.true,
+    ← c.past.ensures,
+    ← c.visit-tally.ensures,
+  ),
+)
 
 pub returns-then-past_y-2 : goal.returns-then-past_y-2
 unfolding high_node high_record
@@ -63,23 +56,22 @@ returns-then-past_y-2 c =
 
 pub loop-left-preserved : goal.loop-left-preserved
 unfolding high_node high_record
-loop-left-preserved c =
-    (
-      omega (arith, c.loop-left.invariant.0),
-      rw (
-        ← c.loop-left.invariant.1,
-        high_from-suc auxiliary_kind _ _ _ _ (positive _ c.loop-left-test.true),
-        before-end _ _ _ c.requires c.place-at.ensures c.if-t-at.false,
-        ← c.place-at.ensures,
-        ← c.read-p.ensures,
-        ← c.past_y.ensures,
-        c.if-past_y.false,
-        ← c.take-tally.ensures,
-        ← c.past_y-else-past_y.ensures,
-        c.if-past_y-2.false,
-        ← c.visit-tally-else-past_y.ensures,
-      ),
-    )
+loop-left-preserved c = (
+  omega (arith, c.loop-left.invariant.0),
+  rw (
+    ← c.loop-left.invariant.1,
+    high_from-suc auxiliary_kind _ _ _ _ (positive _ c.loop-left-test.true),
+    before-end _ _ _ c.requires c.place-at.ensures c.if-t-at.false,
+    ← c.place-at.ensures,
+    ← c.read-p.ensures,
+    ← c.past_y.ensures,
+    c.if-past_y.false,
+    ← c.take-tally.ensures,
+    ← c.past_y-else-past_y.ensures,
+    c.if-past_y-2.false,
+    ← c.visit-tally-else-past_y.ensures,
+  ),
+)
 
 pub returns : goal.returns
 unfolding high_node high_record

@@ -1,4 +1,3 @@
-use Prim.Native.Nat.{ℕ, ◌<◌}
 use borrow.Author.Tests.{le-leb, lt-leb}
 use Rattle.secondary_search.specs.List.{list_node, list_record, list♯-suc, list♯-zero}
 use borrow.Author.Rules.{rules}

@@ -1,4 +1,3 @@
-use borrow.Author.Rules.{rules}
 use Rattle.secondary_update.specs.Insert.{afresh♯, rebuilt_at, put_fresh}
 use borrow.Author.Tests.{eq-eqb, ne_eqb}
 use Rattle.secondary_update.proofs.insert.afresh.Goals as goal

@@ -1,4 +1,3 @@
-use borrow.Author.Rules.{rules}
 use native.Mathlib.Omega.{arith}
 use Rattle.secondary_update.specs.Insert.{auxiliary_insert♯}
 use Rattle.secondary_update.proofs.insert.insert.Goals as goal

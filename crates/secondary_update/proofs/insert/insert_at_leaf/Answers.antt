@@ -1,4 +1,3 @@
-use borrow.Author.Rules.{rules}
 use Rattle.secondary_update.specs.Insert.{node_at, split♯}
 use Rattle.secondary_update.proofs.insert.insert_at_leaf.Goals as goal
 

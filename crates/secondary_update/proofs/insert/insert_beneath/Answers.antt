@@ -1,15 +1,7 @@
 -- The loop keeps: as many words; the arms at the words `at` and `top` are there; the insertion that is left, from `at` on with `left` levels, and then what is
 -- to be built afresh at `top`, is the whole one. What falls: left.
-use Rattle.secondary_update.specs.Insert.{ended, insert_afresh, insert_arm, insert_node, insert_child, insert_way, insert♯, insert♯-zero, insert♯-suc}
-use Rattle.nodes.specs.Weights.{unbalances}
-use Prim.Native.Nat.{◌+◌, ◌<◌, ◌≤◌, ◌^◌}
-use mathlib.Core.Path.{◌≡◌, sym, ◌∙◌}
-use mathlib.Core.Bool.{true}
-use lib.ListN.{length}
-use Rattle.model.specs.Sheet.{along_y}
-use Rattle.geometry.specs.Values.{mark_value}
-use Rattle.table.specs.Layout.{arm_width, record_place}
-use Rattle.table.specs.Limits.{deepest}
+use Rattle.secondary_update.specs.Insert.{insert_afresh, insert_arm, insert_node, insert_child, insert_way, insert♯-zero, insert♯-suc}
+use mathlib.Core.Path.{sym, ◌∙◌}
 use borrow.Author.Rules.{rules}
 use borrow.Author.Tests.{le-leb, lt-leb}
 use native.Mathlib.Omega.{arith}
@@ -35,18 +27,17 @@ returns-then-capacity-name c =
     )
 
 pub insert_at_leaf-requires : goal.insert_at_leaf-requires
-insert_at_leaf-requires c =
-    (
-      rw (← c.slot-name.ensures) c.if-capacity-name.false,
-      c.requires.0,
-      omega (arith, c.loop-left.invariant.0, c.loop-left.invariant.3),
-      (
-        c.loop-left.invariant.1,
-        omega (arith, c.loop-left.invariant.0, c.loop-left.invariant.2),
-        omega (arith, c.loop-left.invariant.0, c.requires.1.2),
-        omega (arith, c.loop-left.invariant.0, c.requires.1.3),
-      ),
-    )
+insert_at_leaf-requires c = (
+  rw (← c.slot-name.ensures) c.if-capacity-name.false,
+  c.requires.0,
+  omega (arith, c.loop-left.invariant.0, c.loop-left.invariant.3),
+  (
+    c.loop-left.invariant.1,
+    omega (arith, c.loop-left.invariant.0, c.loop-left.invariant.2),
+    omega (arith, c.loop-left.invariant.0, c.requires.1.2),
+    omega (arith, c.loop-left.invariant.0, c.requires.1.3),
+  ),
+)
 
 pub shape_of-t-then-is_leaf : goal.shape_of-t-then-is_leaf
 shape_of-t-then-is_leaf c =
@@ -68,11 +59,10 @@ returns-then-is_leaf c =
     )
 
 pub fork-fork-requires : goal.fork-fork-requires
-fork-fork-requires c =
-    (
-      omega (arith, c.loop-left.invariant.0, c.requires.1.2, c.if-capacity-name.false),
-      omega (arith, c.loop-left.invariant.0, c.requires.1.3, c.if-capacity-name.false),
-    )
+fork-fork-requires c = (
+  omega (arith, c.loop-left.invariant.0, c.requires.1.2, c.if-capacity-name.false),
+  omega (arith, c.loop-left.invariant.0, c.requires.1.3, c.if-capacity-name.false),
+)
 
 -- the weights do not add up
 pub returns-then-disagree : goal.returns-then-disagree
@@ -100,29 +90,28 @@ loop-left-smaller-then-unbalances c =
 -- the node will not be balanced with one mark more
 pub loop-left-preserved-then-unbalances : goal.loop-left-preserved-then-unbalances
 unfolding insert_node insert_arm insert_way insert_child insert_afresh
-loop-left-preserved-then-unbalances c =
-    (
-      c.loop-left.invariant.0,
-      c.loop-left.invariant.1,
-      c.loop-left.invariant.2,
-      c.loop-left.invariant.2,
-      rw (
-        ← c.loop-left.invariant.4,
-        insert♯-suc _ (positive _ c.loop-left-test.true),
-        ← c.load-a.ensures,
-        ← c.slot-name.ensures,
-        lt-leb _ _ c.if-capacity-name.false,
-        ← c.is_leaf.ensures,
-        c.if-is_leaf.false,
-        ← c.fork-fork.ensures.child,
-        ← c.fork-fork.ensures.sibling,
-        ← c.disagree.ensures,
-        c.if-disagree.false,
-        ← c.unbalances.ensures,
-        c.if-unbalances.true,
-        was-mending _ _ _ (sym c.unbalances.ensures ∙ c.if-unbalances.true),
-      ),
-    )
+loop-left-preserved-then-unbalances c = (
+  c.loop-left.invariant.0,
+  c.loop-left.invariant.1,
+  c.loop-left.invariant.2,
+  c.loop-left.invariant.2,
+  rw (
+    ← c.loop-left.invariant.4,
+    insert♯-suc _ (positive _ c.loop-left-test.true),
+    ← c.load-a.ensures,
+    ← c.slot-name.ensures,
+    lt-leb _ _ c.if-capacity-name.false,
+    ← c.is_leaf.ensures,
+    c.if-is_leaf.false,
+    ← c.fork-fork.ensures.child,
+    ← c.fork-fork.ensures.sibling,
+    ← c.disagree.ensures,
+    c.if-disagree.false,
+    ← c.unbalances.ensures,
+    c.if-unbalances.true,
+    was-mending _ _ _ (sym c.unbalances.ensures ∙ c.if-unbalances.true),
+  ),
+)
 
 pub store-requires : goal.store-requires
 store-requires c =
@@ -135,32 +124,31 @@ loop-left-smaller c =
 -- on to the child
 pub loop-left-preserved : goal.loop-left-preserved
 unfolding insert_node insert_arm insert_way insert_child
-loop-left-preserved c =
-    (
-      search (rules, c.loop-left.invariant.0, c.store),
-      c.child-at.ensures.small,
-      child-there _ _ _ _ _ _ c.child-at.ensures.is c.if-capacity-name.false c.requires.1.3,
-      c.loop-left.invariant.3,
-      rw (
-        ← c.loop-left.invariant.4,
-        insert♯-suc _ (positive _ c.loop-left-test.true),
-        ← c.load-a.ensures,
-        ← c.slot-name.ensures,
-        lt-leb _ _ c.if-capacity-name.false,
-        ← c.is_leaf.ensures,
-        c.if-is_leaf.false,
-        ← c.fork-fork.ensures.child,
-        ← c.fork-fork.ensures.sibling,
-        ← c.disagree.ensures,
-        c.if-disagree.false,
-        ← c.unbalances.ensures,
-        c.if-unbalances.false,
-        ← c.grown.ensures,
-        ← c.store.ensures,
-        ← c.fork-fork.ensures.left,
-        ← c.child-at.ensures.is,
-      ),
-    )
+loop-left-preserved c = (
+  search (rules, c.loop-left.invariant.0, c.store),
+  c.child-at.ensures.small,
+  child-there _ _ _ _ _ _ c.child-at.ensures.is c.if-capacity-name.false c.requires.1.3,
+  c.loop-left.invariant.3,
+  rw (
+    ← c.loop-left.invariant.4,
+    insert♯-suc _ (positive _ c.loop-left-test.true),
+    ← c.load-a.ensures,
+    ← c.slot-name.ensures,
+    lt-leb _ _ c.if-capacity-name.false,
+    ← c.is_leaf.ensures,
+    c.if-is_leaf.false,
+    ← c.fork-fork.ensures.child,
+    ← c.fork-fork.ensures.sibling,
+    ← c.disagree.ensures,
+    c.if-disagree.false,
+    ← c.unbalances.ensures,
+    c.if-unbalances.false,
+    ← c.grown.ensures,
+    ← c.store.ensures,
+    ← c.fork-fork.ensures.left,
+    ← c.child-at.ensures.is,
+  ),
+)
 
 -- the levels are used up
 pub returns : goal.returns

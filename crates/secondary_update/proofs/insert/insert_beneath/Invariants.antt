@@ -1,20 +1,14 @@
 -- The loop keeps: as many words; the arms at the words `at` and `top` are there; the insertion that is left, from `at` on with `left` levels, and then what is
 -- to be built afresh at `top`, is the whole one. What falls: left.
-use Rattle.secondary_update.specs.Insert.{ended, insert_afresh, insert_arm, insert_node, insert_child, insert_way, insert♯, insert♯-zero, insert♯-suc}
-use Rattle.nodes.specs.Weights.{unbalances}
+use Rattle.secondary_update.specs.Insert.{ended, insert♯}
 use Prim.Native.Nat.{◌+◌, ◌<◌, ◌≤◌, ◌^◌}
-use mathlib.Core.Path.{◌≡◌, sym, ◌∙◌}
+use mathlib.Core.Path.{◌≡◌}
 use mathlib.Core.Bool.{true}
 use lib.ListN.{length}
 use Rattle.model.specs.Sheet.{along_y}
 use Rattle.geometry.specs.Values.{mark_value}
 use Rattle.table.specs.Layout.{arm_width, record_place}
 use Rattle.table.specs.Limits.{deepest}
-use borrow.Author.Rules.{rules}
-use borrow.Author.Tests.{le-leb, lt-leb}
-use native.Mathlib.Omega.{arith}
-use Rattle.table.proofs.Fuel.{positive, nothing}
-use Rattle.secondary_update.proofs.Steps.{child-there, ended-damaged, was-mending}
 use Rattle.secondary_update.proofs.insert.insert_beneath.Given as goal
 
 abbrev pub invariant-loop-left : goal.invariant-loop-left

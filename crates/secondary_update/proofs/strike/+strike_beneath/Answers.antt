@@ -1,4 +1,3 @@
-use Prim.Native.Nat.{ℕ, ◌<◌}
 use borrow.Author.Tests.{le-leb, lt-leb}
 use borrow.Author.Rules.{rules}
 use Rattle.secondary_update.specs.Strike.{strike_child, strike_node, strike_way, strike♯-suc, strike♯-zero}

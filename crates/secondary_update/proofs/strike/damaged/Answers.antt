@@ -1,4 +1,3 @@
-use borrow.Author.Rules.{rules}
 use Rattle.secondary_update.proofs.strike.damaged.Goals as goal
 
 pub returns : goal.returns

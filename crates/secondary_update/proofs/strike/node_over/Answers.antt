@@ -1,4 +1,3 @@
-use borrow.Author.Rules.{rules}
 use Rattle.secondary_update.specs.Strike.{node_over}
 use Rattle.secondary_update.proofs.strike.node_over.Goals as goal
 

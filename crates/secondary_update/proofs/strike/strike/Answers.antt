@@ -1,4 +1,3 @@
-use borrow.Author.Rules.{rules}
 use Rattle.secondary_update.specs.Strike.{auxiliary_strike♯, strike_from}
 use Rattle.secondary_update.proofs.strike.strike.Goals as goal
 

@@ -1,4 +1,3 @@
-use borrow.Author.Rules.{rules}
 use Rattle.secondary_update.specs.Strike.{fresh_strike, strike_afresh}
 use Rattle.secondary_update.proofs.strike.strike_afresh.Goals as goal
 

@@ -1,4 +1,3 @@
-use borrow.Author.Rules.{rules}
 use borrow.Author.Tests.{eq-eqb, ne_eqb}
 use Rattle.secondary_update.specs.Strike.{node_over, strike_over}
 use Rattle.secondary_update.proofs.strike.strike_over.Goals as goal

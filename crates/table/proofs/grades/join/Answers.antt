@@ -1,7 +1,7 @@
 use Rattle.table.specs.Grades.{word}
 use Rattle.table.proofs.Packing.{less-part, joined-less}
-use Rattle.std.proofs.Common.{arith, rules}
-use Rattle.table.specs.Grades.{joined, joined_word}
+use Rattle.std.proofs.Common.{arith}
+use Rattle.table.specs.Grades.{joined_word}
 use Rattle.table.proofs.grades.join.Goals as goal
 
 pub overflow_sub-result : goal.overflow_sub-result

@@ -1,4 +1,3 @@
-use Rattle.std.proofs.Common.{rules}
 use Rattle.table.specs.Grades.{graded, word}
 use Rattle.table.proofs.grades.of_grade.Goals as goal
 

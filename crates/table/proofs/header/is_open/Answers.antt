@@ -1,4 +1,3 @@
-use Rattle.std.proofs.Common.{rules}
 use Rattle.table.proofs.header.is_open.Goals as goal
 
 pub returns : goal.returns

@@ -1,5 +1,5 @@
 -- `own` meets its contract: the tests of document 01's row 3 in its order, each with what is given there. Assumes nothing.
-use Rattle.std.proofs.Common.{sym, refl, ◌∙◌, rules, le-ltb, lt-ltb}
+use Rattle.std.proofs.Common.{sym, refl, ◌∙◌, le-ltb, lt-ltb}
 use Rattle.table.specs.Header.{not_table, own_words, own_visits}
 use Rattle.table.proofs.Own.{own-words, own-visits}
 use Rattle.table.proofs.header.own.Goals as goal

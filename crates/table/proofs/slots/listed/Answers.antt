@@ -1,6 +1,6 @@
 use Rattle.table.specs.Marks.{mark_at}
 use borrow.Author.Tests.{lt-leb}
-use Rattle.std.proofs.Common.{rules, le-leb}
+use Rattle.std.proofs.Common.{le-leb}
 use Rattle.table.specs.Marks.{list_mark}
 use Rattle.table.proofs.slots.listed.Goals as goal
 

@@ -1,4 +1,3 @@
-use Rattle.std.proofs.Common.{rules}
 use Rattle.table.specs.Marks.{slot_mark}
 use Rattle.table.proofs.slots.load.Goals as goal
 

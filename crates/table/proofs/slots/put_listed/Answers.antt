@@ -1,4 +1,3 @@
-use Rattle.std.proofs.Common.{rules}
 use borrow.Author.Tests.{lt-leb}
 use Rattle.table.specs.Marks.{put_mark}
 use Rattle.table.proofs.slots.put_listed.Goals as goal

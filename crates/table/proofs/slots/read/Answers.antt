@@ -1,5 +1,5 @@
 use Rattle.table.specs.Marks.{mark_at}
-use Rattle.std.proofs.Common.{rules, le-leb}
+use Rattle.std.proofs.Common.{le-leb}
 use Rattle.table.proofs.slots.read.Goals as goal
 
 pub returns : goal.returns

@@ -1,6 +1,6 @@
 use Rattle.table.proofs.Stores.{put_mark-stores}
 use Rattle.geometry.specs.Values.{mark_value}
-use Rattle.std.proofs.Common.{arith, length-set, rules}
+use Rattle.std.proofs.Common.{arith, length-set}
 use Rattle.table.proofs.slots.write.Goals as goal
 
 pub bounds-t-at-2 : goal.bounds-t-at-2

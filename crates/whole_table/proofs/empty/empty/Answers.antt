@@ -1,5 +1,4 @@
 -- `empty` meets its contract: every slot made free, then the header word by word. Assumes nothing.
-use borrow.Author.Rules.{rules}
 use Rattle.whole_table.specs.Empty.{empty♯}
 use Rattle.whole_table.proofs.empty.empty.Goals as goal
 

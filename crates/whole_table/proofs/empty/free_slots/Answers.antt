@@ -1,10 +1,7 @@
 -- `free_slots` meets its contract. The loop keeps: the length, left ≤ capacity, and free_slots♯ of left on t is that of capacity on t₀. What falls: left.
-use Prim.Native.Nat.{◌<◌, ◌≤◌}
-use mathlib.Core.Path.{◌≡◌}
 use native.Mathlib.Omega.{arith}
-use lib.ListN.{length}
 use Rattle.table.proofs.Fuel.{positive, nothing}
-use Rattle.whole_table.specs.Empty.{free_slots♯, own_place, free_slots♯-zero, free_slots♯-suc}
+use Rattle.whole_table.specs.Empty.{own_place, free_slots♯-zero, free_slots♯-suc}
 use borrow.Author.Rules.{rules}
 use Rattle.whole_table.proofs.empty.free_slots.Goals as goal
 
@@ -14,17 +11,16 @@ loop-left-smaller c =
 
 pub loop-left-preserved : goal.loop-left-preserved
 unfolding own_place
-loop-left-preserved c =
-    (
-      search (rules, c.loop-left.invariant.0),
-      omega (arith, c.loop-left.invariant.1),
-      rw (
-        ← c.loop-left.invariant.2,
-        free_slots♯-suc _ (positive _ c.loop-left-test.true),
-        ← c.put_used.ensures,
-        ← c.put_place.ensures,
-      ),
-    )
+loop-left-preserved c = (
+  search (rules, c.loop-left.invariant.0),
+  omega (arith, c.loop-left.invariant.1),
+  rw (
+    ← c.loop-left.invariant.2,
+    free_slots♯-suc _ (positive _ c.loop-left-test.true),
+    ← c.put_used.ensures,
+    ← c.put_place.ensures,
+  ),
+)
 
 pub returns : goal.returns
 returns c = rw (← c.loop-left.invariant.2, free_slots♯-zero _ (nothing _ c.loop-left-test.false))

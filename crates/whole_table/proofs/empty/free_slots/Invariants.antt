@@ -1,11 +1,8 @@
 -- `free_slots` meets its contract. The loop keeps: the length, left ≤ capacity, and free_slots♯ of left on t is that of capacity on t₀. What falls: left.
-use Prim.Native.Nat.{◌<◌, ◌≤◌}
+use Prim.Native.Nat.{◌≤◌}
 use mathlib.Core.Path.{◌≡◌}
-use native.Mathlib.Omega.{arith}
 use lib.ListN.{length}
-use Rattle.table.proofs.Fuel.{positive, nothing}
-use Rattle.whole_table.specs.Empty.{free_slots♯, own_place, free_slots♯-zero, free_slots♯-suc}
-use borrow.Author.Rules.{rules}
+use Rattle.whole_table.specs.Empty.{free_slots♯}
 use Rattle.whole_table.proofs.empty.free_slots.Given as goal
 
 abbrev pub invariant-loop-left : goal.invariant-loop-left

@@ -1,5 +1,4 @@
 use borrow.Author.Tests.{le-leb, lt-leb}
-use borrow.Author.Rules.{rules}
 use Rattle.whole_table.specs.Insert.{entered, insert_live, insert_slot, table_insert♯}
 use Rattle.whole_table.proofs.insert.insert.Goals as goal
 

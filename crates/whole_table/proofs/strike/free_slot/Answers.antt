@@ -1,5 +1,4 @@
 -- `free_slot` meets its contract: the slot changes places with the last live one, call by call as in the mirror. Assumes nothing.
-use borrow.Author.Rules.{rules}
 use Rattle.whole_table.specs.Strike.{exchanged, free_slot♯, free_within}
 use Rattle.whole_table.proofs.strike.free_slot.Goals as goal
 

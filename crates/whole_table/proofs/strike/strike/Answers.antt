@@ -1,4 +1,3 @@
-use borrow.Author.Rules.{rules}
 use Rattle.whole_table.specs.Strike.{struck, table_strike♯}
 use Rattle.whole_table.proofs.strike.strike.Goals as goal
 

@@ -1,4 +1,3 @@
-use borrow.Author.Rules.{rules}
 use Rattle.nodes.specs.Arms.{grown_arm}
 use Rattle.nodes.proofs.arm.Arm.grown.Goals as goal
 

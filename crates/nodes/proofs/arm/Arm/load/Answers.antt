@@ -1,4 +1,3 @@
-use borrow.Author.Rules.{rules}
 use Rattle.nodes.specs.Arms.{arm_at}
 use Rattle.nodes.proofs.arm.Arm.load.Goals as goal
 

@@ -1,4 +1,3 @@
-use borrow.Author.Rules.{rules}
 use Rattle.nodes.specs.Arms.{over_arm}
 use Rattle.nodes.proofs.arm.Arm.over.Goals as goal
 

@@ -1,6 +1,5 @@
 use Rattle.nodes.proofs.Stores.{put_arm-stores}
 use Rattle.nodes.specs.Values.{arm_value}
-use borrow.Author.Rules.{rules}
 use native.Mathlib.Omega.{arith}
 use lib.ListN.{length-set}
 use Rattle.nodes.proofs.arm.Arm.store.Goals as goal

@@ -1,4 +1,3 @@
-use borrow.Author.Rules.{rules}
 use Rattle.nodes.specs.Arms.{record_at}
 use Rattle.nodes.proofs.arm.Record.load.Goals as goal
 

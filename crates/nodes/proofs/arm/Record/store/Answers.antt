@@ -1,4 +1,3 @@
-use borrow.Author.Rules.{rules}
 use Rattle.nodes.specs.Arms.{put_record}
 use Rattle.nodes.proofs.arm.Record.store.Goals as goal
 

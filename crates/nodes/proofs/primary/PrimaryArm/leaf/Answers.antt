@@ -1,4 +1,3 @@
-use borrow.Author.Rules.{rules}
 use Rattle.nodes.specs.Arms.{leaf_arm}
 use Rattle.nodes.proofs.primary.PrimaryArm.leaf.Goals as goal
 

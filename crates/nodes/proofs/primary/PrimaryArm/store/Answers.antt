@@ -1,4 +1,3 @@
-use borrow.Author.Rules.{rules}
 use Rattle.nodes.proofs.primary.PrimaryArm.store.Goals as goal
 
 pub returns : goal.returns

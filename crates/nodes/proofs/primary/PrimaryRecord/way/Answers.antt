@@ -1,4 +1,3 @@
-use borrow.Author.Rules.{rules}
 use Rattle.nodes.specs.Ways.{way_at}
 use Rattle.nodes.specs.Arms.{way_of}
 use Rattle.nodes.proofs.primary.PrimaryRecord.way.Goals as goal

@@ -1,4 +1,3 @@
-use borrow.Author.Rules.{rules}
 use Rattle.nodes.specs.Arms.{leaf_arm}
 use Rattle.nodes.proofs.secondary.SecondaryArm.leaf.Goals as goal
 

@@ -1,4 +1,3 @@
-use borrow.Author.Rules.{rules}
 use borrow.Author.Tests.{ltb-false}
 use Rattle.nodes.proofs.secondary.SecondaryRecord.lacks_level.Goals as goal
 

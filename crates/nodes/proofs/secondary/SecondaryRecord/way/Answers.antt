@@ -1,4 +1,3 @@
-use borrow.Author.Rules.{rules}
 use Rattle.nodes.specs.Ways.{way_at}
 use Rattle.nodes.specs.Arms.{way_of}
 use Rattle.nodes.proofs.secondary.SecondaryRecord.way.Goals as goal

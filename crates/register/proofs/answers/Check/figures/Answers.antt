@@ -1,4 +1,3 @@
-use borrow.Author.Rules.{rules}
 use Rattle.register.proofs.answers.Check.figures.Goals as goal
 
 pub returns-in-Sound : goal.returns-in-Sound

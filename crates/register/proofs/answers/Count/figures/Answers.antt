@@ -1,4 +1,3 @@
-use borrow.Author.Rules.{rules}
 use Rattle.nodes.specs.Weights.{sum}
 use Rattle.register.proofs.answers.Count.figures.Goals as goal
 

@@ -1,4 +1,3 @@
-use borrow.Author.Rules.{rules}
 use Rattle.register.proofs.answers.Listing.figures.Goals as goal
 
 pub returns-in-Listed : goal.returns-in-Listed

@@ -1,4 +1,3 @@
-use borrow.Author.Rules.{rules}
 use Rattle.register.proofs.answers.Opening.figures.Goals as goal
 
 pub returns-in-Opened : goal.returns-in-Opened

@@ -1,4 +1,3 @@
-use borrow.Author.Rules.{rules}
 use Rattle.register.proofs.answers.Update.figures.Goals as goal
 
 pub returns-in-Done : goal.returns-in-Done

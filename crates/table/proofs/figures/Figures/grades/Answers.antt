@@ -1,4 +1,3 @@
-use Rattle.std.proofs.Common.{rules}
 use Rattle.table.specs.Figures.{grades_in}
 use Rattle.table.proofs.figures.Figures.grades.Goals as goal
 

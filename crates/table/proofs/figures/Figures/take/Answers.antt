@@ -1,7 +1,4 @@
 use Rattle.table.proofs.Packing.{less-part, arrived-tree}
-use Rattle.std.proofs.Common.{rules}
-use Rattle.table.specs.Figures.{arrived, packed}
-use Rattle.table.specs.Grades.{joined}
 use Rattle.table.proofs.figures.Figures.take.Goals as goal
 
 pub overflow_sub-grades : goal.overflow_sub-grades

@@ -1,5 +1,5 @@
 use Rattle.table.proofs.Packing.{arrived-none}
-use Rattle.std.proofs.Common.{◌∙◌, rules}
+use Rattle.std.proofs.Common.{◌∙◌}
 use Rattle.table.proofs.figures.Figures.visit.Goals as goal
 
 pub returns : goal.returns

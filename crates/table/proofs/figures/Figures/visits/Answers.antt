@@ -1,4 +1,3 @@
-use Rattle.std.proofs.Common.{rules}
 use Rattle.table.specs.Figures.{visits_in}
 use Rattle.table.proofs.figures.Figures.visits.Goals as goal
 

@@ -1,4 +1,3 @@
-use Rattle.std.proofs.Common.{rules}
 use Rattle.table.specs.Tally.{visited}
 use Rattle.table.proofs.tally.Tally.take.Goals as goal
 
