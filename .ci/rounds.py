@@ -34,12 +34,13 @@ import re
 import shutil
 import subprocess
 import sys
+import tempfile
 
 NOT_ITS_OWN = ('was not admitted', 'was rejected', 'can be named from here', 'has no field', 'expected a type', 'is not in scope')
 REFUSED = re.compile(r'^logic=not-proved', re.M)
 ERROR = re.compile(r'^(?:\./)?(\S+):\d+:\d+: error: (?:`([^`]*)`: )?(.*)$', re.M)
 WITHOUT_FILE = re.compile(r'^fn \S+: no proof: expected answers in (?:\./)?(\S+); `search` did not prove (.*)$', re.M)
-ROOM = pathlib.Path('target/rounds')
+ROOM = pathlib.Path(tempfile.mkdtemp(prefix="rounds-"))
 
 Fault = collections.namedtuple('Fault', 'says place pairs')  # pairs of (file, old, new)
 

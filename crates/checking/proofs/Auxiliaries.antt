@@ -1,4 +1,5 @@
 -- The auxiliary trees of a main tree that the walk passes are those of the rules: each has just the slots beneath its node. Assumes nothing.
+use Rattle.std.specs.Prelude.{if◌then◌else◌}
 use Prim.Native.Nat.{ℕ, suc, ◌+◌, ◌≤◌, ◌<◌}
 use mathlib.Core.Path.{◌≡◌, refl, sym, ap, subst, ◌∙◌}
 use mathlib.Core.Bool.{true, false}
@@ -8,7 +9,7 @@ use native.Mathlib.Omega.{arith}
 use lib.Dec.{ltb, eqb}
 use lib.ListN.{length}
 use borrow.Author.Tests.{eqb-true, eqb-false}
-use Rattle.model.specs.Lists.{if◌then◌else◌, count_if}
+use Rattle.model.specs.Lists.{count_if}
 use Rattle.model.specs.Sheet.{below_x, along_x, along_y}
 use Rattle.model.specs.Tree.{Tree, leaf, node, weight, depth, marks, least, greatest}
 use Rattle.model.specs.Slots.{slot_axis}

@@ -1,10 +1,10 @@
 -- What the comparisons of arms say. Assumes nothing.
+use Rattle.std.specs.Prelude.{if◌then◌else◌}
 use Prim.Native.Nat.{ℕ, ◌+◌, ◌*◌, ◌≤◌}
 use mathlib.Core.Path.{◌≡◌, refl, sym}
 use mathlib.Core.Bool.{Bool, true, false, ◌&&◌}
 use lib.Dec.{leb, eqb}
 use borrow.Author.Tests.{eqb-true, eq-eqb, leb-true, le-leb}
-use Rattle.model.specs.Lists.{if◌then◌else◌}
 use Rattle.model.proofs.Logic.{by_cases, clash, both-pass, and_left, and_right}
 use Rattle.nodes.specs.Arms.{Arm, over_arm}
 use Rattle.checking.specs.Span.{same_arm, fits♯}

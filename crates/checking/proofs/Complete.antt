@@ -1,4 +1,5 @@
 -- A sound table passes the check: what the walks ask of a tree holds of the trees that the words hold. Assumes nothing.
+use Rattle.std.specs.Prelude.{if◌then◌else◌}
 use Prim.Native.Nat.{ℕ, suc, ◌+◌, ◌-◌, ◌≤◌, ◌<◌}
 use mathlib.Core.Path.{◌≡◌, refl, sym, ap, subst, ◌∙◌}
 use mathlib.Core.Bool.{Bool, true, false}
@@ -8,7 +9,6 @@ use native.Mathlib.Omega.{arith}
 use lib.Dec.{ltb}
 use lib.ListN.{length}
 use borrow.Author.Tests.{eq-eqb, ne_eqb, ltb-true, le-ltb}
-use Rattle.model.specs.Lists.{if◌then◌else◌}
 use Rattle.model.specs.Sizes.{D, W}
 use Rattle.model.specs.Tree.{Tree, leaf, node, weight, depth, marks, marks_of, least, greatest, Balanced}
 use Rattle.model.specs.Sheet.{Mark, Main, mark_outside, grade_outside, along_x, along_y, sheet}

@@ -1,4 +1,5 @@
 -- A table that passes the check is sound. Assumes nothing.
+use Rattle.std.specs.Prelude.{if◌then◌else◌}
 use Prim.Native.Nat.{ℕ, ◌≤◌, ◌<◌}
 use mathlib.Core.Path.{◌≡◌, refl, sym, ap, subst, ◌∙◌}
 use mathlib.Core.Bool.{true, false}
@@ -8,7 +9,7 @@ use native.Mathlib.Omega.{arith}
 use lib.Dec.{eqb}
 use lib.ListN.{length, get_or, length-map}
 use borrow.Author.Tests.{lt-ltb, eqb-true}
-use Rattle.model.specs.Lists.{if◌then◌else◌, indicator}
+use Rattle.model.specs.Lists.{indicator}
 use Rattle.model.specs.Tree.{marks, marks_of, least, greatest}
 use Rattle.model.specs.Sizes.{W, capacity_outside}
 use Rattle.model.specs.Sheet.{Mark, Main, mark_outside, grade_outside, along_x}

@@ -1,5 +1,6 @@
 -- How many nodes the walks come to, on any words: an auxiliary tree of weight w no more than 2 w - 1, and the main tree of `live` marks, with all its
 -- auxiliary trees, no more than 2 live (D(live) + 1). Each comparison is made before the walk goes on, so damage only ends it sooner. Assumes nothing.
+use Rattle.std.specs.Prelude.{if◌then◌else◌}
 use Prim.Native.Nat.{ℕ, zero, suc, ◌+◌, ◌*◌, ◌/◌, ◌%◌, ◌≤◌}
 use mathlib.Core.Path.{◌≡◌, refl, ap, ◌∙◌}
 use mathlib.Core.List.{List}
@@ -7,7 +8,6 @@ use native.Mathlib.Omega.{arith}
 use native.Mathlib.Nat.{mul-add, add-mul, mul-suc, mul-le-mul_left, mul-le-mul}
 use lib.Dec.{eqb}
 use borrow.Author.Tests.{eqb-true}
-use Rattle.model.specs.Lists.{if◌then◌else◌}
 use Rattle.model.specs.Sizes.{D}
 use Rattle.model.proofs.Logic.{by_cases}
 use Rattle.model.proofs.Sizes.{deep_step, D-holds, D-largest}

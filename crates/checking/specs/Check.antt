@@ -1,6 +1,5 @@
 -- The mirror of the check. Assumes nothing.
-use Rattle.std.specs.Prelude.{ℕ, Bool, true, false, List, ltb, eqb, length, get_or}
-use Rattle.model.specs.Lists.{if◌then◌else◌}
+use Rattle.std.specs.Prelude.{ℕ, Bool, true, false, List, ltb, eqb, length, get_or, if◌then◌else◌}
 use Rattle.table.specs.Layout.{capacity_place, live_place, root_place}
 use Rattle.table.specs.Limits.{deepest, damaged}
 use Rattle.nodes.specs.Arms.{Arm, arm_at}

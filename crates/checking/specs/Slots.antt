@@ -1,7 +1,6 @@
 -- The mirrors of the walks through `used` and `place`. Assumes nothing.
-use Rattle.std.specs.Prelude.{ℕ, zero, suc, ◌-◌, ◌≡◌, refl, Bool, true, false, List, leb, ltb, eqb, get_or}
+use Rattle.std.specs.Prelude.{ℕ, zero, suc, ◌-◌, ◌≡◌, refl, Bool, true, false, List, leb, ltb, eqb, get_or, if◌then◌else◌}
 use Rattle.std.proofs.Common.{arith}
-use Rattle.model.specs.Lists.{if◌then◌else◌}
 use Rattle.table.specs.Layout.{used_place, place_place}
 
 unfoldable pub live_slot♯ : ℕ → ℕ → List ℕ → ℕ → Bool

@@ -1,7 +1,6 @@
 -- The mirrors of the walks through an auxiliary tree and through the main tree. Assumes nothing.
-use Rattle.std.specs.Prelude.{ℕ, zero, suc, ◌-◌, ◌≡◌, refl, Bool, true, false, List, ltb, eqb, length}
+use Rattle.std.specs.Prelude.{ℕ, zero, suc, ◌-◌, ◌≡◌, refl, Bool, true, false, List, ltb, eqb, length, if◌then◌else◌}
 use Rattle.std.proofs.Common.{arith}
-use Rattle.model.specs.Lists.{if◌then◌else◌}
 use Rattle.model.specs.Sheet.{below_x, mark_outside, grade_outside, along_x, along_y}
 use Rattle.table.specs.Layout.{main_place, auxiliary_place, record_place, level_end}
 use Rattle.table.specs.Limits.{deepest}

@@ -1,4 +1,5 @@
 -- The mirror of the reading gives just the command of which a line is the written form. Assumes nothing.
+use Rattle.std.specs.Prelude.{if◌then◌else◌}
 use Prim.Native.Nat.{ℕ, zero, suc, ◌+◌, ◌-◌, ◌*◌, ◌/◌, ◌%◌, ◌<◌}
 use mathlib.Core.Path.{◌≡◌, refl, sym, ap, ◌∙◌}
 use mathlib.Core.Bool.{Bool, true, false}
@@ -9,7 +10,6 @@ use lib.Dec.{leb, eqb}
 use lib.ListN.{get_or}
 use lib.Seq.{append_snoc}
 use borrow.Author.Tests.{leb-true, le-leb, eqb-true, eqb-false, ne_eqb}
-use Rattle.model.specs.Lists.{if◌then◌else◌}
 use Rattle.model.specs.Laws.{All, nil, cons}
 use Rattle.model.proofs.Logic.{by_cases, and_left, and_right}
 use Rattle.lines.specs.Text.{digits, fields}

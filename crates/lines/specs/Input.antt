@@ -1,8 +1,7 @@
 -- The lines of an input (document 01, "The planner and the line program": "A line ends in a line feed or the end of input and has at most 48 bytes before
 -- it; an empty rest after the last line feed is no line."), and lines in lent bytes. Assumes nothing.
-use Rattle.std.specs.Prelude.{ℕ, ◌+◌, ◌≤◌, ◌<◌, ◌≡◌, List, [], ◌∷◌, ◌++◌, leb, eqb, length, take, set}
+use Rattle.std.specs.Prelude.{ℕ, ◌+◌, ◌≤◌, ◌<◌, ◌≡◌, List, [], ◌∷◌, ◌++◌, leb, eqb, length, take, set, if◌then◌else◌}
 use Rattle.std.proofs.Math.Option.{Option, none}
-use Rattle.model.specs.Lists.{if◌then◌else◌}
 use Rattle.table.specs.After.{After, after}
 use Rattle.lines.specs.Text.{line_feed}
 use Rattle.lines.specs.Commands.{Command, Reads}

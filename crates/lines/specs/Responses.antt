@@ -1,6 +1,5 @@
 -- What the program prints for a line (document 01, "The planner and the line program"). Assumes nothing.
-use Rattle.std.specs.Prelude.{ℕ, List, [], ◌∷◌, ◌++◌, eqb}
-use Rattle.model.specs.Lists.{if◌then◌else◌}
+use Rattle.std.specs.Prelude.{ℕ, List, [], ◌∷◌, ◌++◌, eqb, if◌then◌else◌}
 use Rattle.model.specs.Sheet.{Mark}
 use Rattle.model.specs.History.{Answer}
 use Rattle.lines.specs.Text.{line_feed, digits, fields}

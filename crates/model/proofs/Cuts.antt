@@ -1,6 +1,7 @@
 -- Panes that share a cut (R-2). Where panes are laid out over a box edge to edge, what the box comes to under any operation with laws is what the panes come
 -- to, joined; the two parts of a box that a line cuts are such panes, along x and along y by one law. For a plain list and for the answers of the history.
 -- And a box without a side is accepted and empty. Assumes nothing.
+use Rattle.std.specs.Prelude.{if◌then◌else◌}
 use Prim.Native.Nat.{ℕ, ◌+◌, max, ◌≤◌}
 use mathlib.Core.Path.{◌≡◌, refl, sym, ap, ap₂, fun_ext, ◌∙◌}
 use mathlib.Core.Logic.{◌⊎◌, inl, inr}
@@ -9,7 +10,7 @@ use mathlib.Core.List.{List, [], ◌∷◌, ◌++◌}
 use native.Mathlib.Omega.{arith}
 use lib.Dec.{ltb, leb}
 use borrow.Author.Tests.{lt-ltb, le-ltb, ltb-true, leb-true, leb-false, le-leb}
-use Rattle.model.specs.Lists.{if◌then◌else◌, indicator, count_if}
+use Rattle.model.specs.Lists.{indicator, count_if}
 use Rattle.model.specs.Totals.{Operation, total, figure_if, total_if, counting}
 use Rattle.model.specs.Axis.{on_side}
 use Rattle.model.specs.Sizes.{passes, rise_passes}

@@ -1,5 +1,6 @@
 -- Every run that begins with an accepted open, from any state: the tree kept beside the plain list holds exactly its marks, in order and balanced,
 -- no more of them than the capacity; no step gives 3 or 4; each count's visits are within the bound. Assumes nothing.
+use Rattle.std.specs.Prelude.{if◌then◌else◌}
 use Prim.Native.Nat.{ℕ, ◌+◌, ◌*◌, ◌≤◌}
 use mathlib.Core.Path.{◌≡◌, ap₂}
 use mathlib.Core.Logic.{◌≢◌}
@@ -9,7 +10,7 @@ use native.Mathlib.Omega.{arith}
 use lib.Dec.{ltb, eqb}
 use lib.ListN.{length}
 use borrow.Author.Tests.{ltb-true, ltb-false, eqb-false}
-use Rattle.model.specs.Lists.{if◌then◌else◌, count_if, filter_by}
+use Rattle.model.specs.Lists.{count_if, filter_by}
 use Rattle.model.specs.Sizes.{D, W, capacity_outside}
 use Rattle.model.specs.Sheet.{Mark, Box, below_x, same, holds, mark_outside, grade_outside, box_crossed, main}
 use Rattle.model.specs.Refusals.{open_table, enter_mark, name_mark, enter_box}

@@ -1,11 +1,11 @@
 -- Cases on tests and the truth tables that the proofs use. Assumes nothing.
+use Rattle.std.specs.Prelude.{if◌then◌else◌}
 use Prim.Native.Nat.{ℕ, ◌<◌}
 use mathlib.Core.Path.{◌≡◌, refl, sym, ◌∙◌}
 use mathlib.Core.Bool.{Bool, true, false, not, ◌&&◌, ◌||◌, true≢false}
 use native.Mathlib.Omega.{arith}
 use lib.Dec.{ltb, leb, eqb}
 use borrow.Author.Tests.{ltb-true, ltb-false, eqb-true, eqb-false, leb-true, leb-false, lt-ltb, le-ltb, lt-leb, le-leb}
-use Rattle.model.specs.Lists.{if◌then◌else◌}
 
 -- by cases on a test, with the test's value in hand
 pub by_cases {ℓ} : {G : Type ℓ} (c : Bool) → (c ≡ true → G) → (c ≡ false → G) → G

@@ -1,4 +1,5 @@
 -- After an update of a balanced tree, rebalancing builds afresh the unbalanced node nearest the root, if there is one, and nothing else. Assumes nothing.
+use Rattle.std.specs.Prelude.{if◌then◌else◌}
 use Prim.Native.Nat.{ℕ, ◌+◌, ◌*◌}
 use mathlib.Core.Path.{◌≡◌, refl}
 use mathlib.Core.Bool.{true, false}
@@ -7,7 +8,6 @@ use mathlib.Core.Option.{Option, none, some}
 use native.Mathlib.Omega.{arith}
 use native.Mathlib.Nat.{add-zero, zero-add}
 use borrow.Author.Tests.{le-leb}
-use Rattle.model.specs.Lists.{if◌then◌else◌}
 use Rattle.model.specs.Axis.{Axis}
 use Rattle.model.specs.Register.{Register}
 use Rattle.model.specs.Tree.{Tree, leaf, node, weight, marks, least, evenly, Balanced, with_left, with_right, build, insert_leaf, strike_leaf}

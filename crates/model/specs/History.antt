@@ -1,8 +1,8 @@
 -- The history (document 01): what each call of a run gives by a plain list of marks, and the tree that the run's accepted calls make, from which
 -- 'rebuilt' and visits come. It is fed each call's arguments and the lengths lent, nothing from the table. Assumes nothing.
-use Rattle.std.specs.Prelude.{ℕ, ◌*◌, ◌%◌, Bool, ◌||◌, List, [], ◌∷◌, ltb, eqb, length}
+use Rattle.std.specs.Prelude.{ℕ, ◌*◌, ◌%◌, Bool, ◌||◌, List, [], ◌∷◌, ltb, eqb, length, if◌then◌else◌}
 use Rattle.std.proofs.Math.Option.{none}
-use Rattle.model.specs.Lists.{if◌then◌else◌, count_if, filter_by, remove_first, insert_sorted}
+use Rattle.model.specs.Lists.{count_if, filter_by, remove_first, insert_sorted}
 use Rattle.model.specs.Totals.{total_if}
 use Rattle.model.specs.Fold.{insert_rebuilt, strike_rebuilt}
 use Rattle.model.specs.Sizes.{passes}

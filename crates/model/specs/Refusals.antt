@@ -1,6 +1,5 @@
 -- The tests of document 01's table "Where each call may stop" that go by a call's own arguments, with their numbers. Assumes nothing.
-use Rattle.std.specs.Prelude.{ℕ, ltb}
-use Rattle.model.specs.Lists.{if◌then◌else◌}
+use Rattle.std.specs.Prelude.{ℕ, ltb, if◌then◌else◌}
 use Rattle.model.specs.Sizes.{W, capacity_outside}
 use Rattle.model.specs.Sheet.{Mark, Box, mark_outside, grade_outside, box_crossed}
 

@@ -1,6 +1,6 @@
 -- The search of a box in a tree, counting and listing, with its visits (document 01, "The search and its visits"). Assumes nothing.
-use Rattle.std.specs.Prelude.{◌+◌, Bool, [], ◌∷◌, ◌++◌}
-use Rattle.model.specs.Lists.{if◌then◌else◌, filter_by}
+use Rattle.std.specs.Prelude.{◌+◌, Bool, [], ◌∷◌, ◌++◌, if◌then◌else◌}
+use Rattle.model.specs.Lists.{filter_by}
 use Rattle.model.specs.Totals.{figure_if}
 use Rattle.model.specs.Axis.{Space, Axis, cell_inside, cell_clear}
 use Rattle.model.specs.Register.{Found, Listed, Register}

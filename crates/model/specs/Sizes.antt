@@ -1,6 +1,5 @@
 -- D(n) and W(C) (document 01, "Marks, boxes, tables"), and the passes of the list's sorting ("The list"). Assumes nothing.
-use Rattle.std.specs.Prelude.{ℕ, zero, suc, ◌+◌, ◌*◌, ◌^◌, Bool, ◌||◌, leb, ltb, eqb}
-use Rattle.model.specs.Lists.{if◌then◌else◌}
+use Rattle.std.specs.Prelude.{ℕ, zero, suc, ◌+◌, ◌*◌, ◌^◌, Bool, ◌||◌, leb, ltb, eqb, if◌then◌else◌}
 
 -- up from d as long as the next passes the test, at most `steps` times
 unfoldable pub rise_d : ℕ → ℕ → ℕ → ℕ

@@ -1,7 +1,6 @@
 -- What marks come to under an operation: their number, the sum of their grades, the worst grade (request R-1; 000's closing remark allows any associative,
 -- commutative operation). Assumes nothing.
-use Rattle.std.specs.Prelude.{ℕ, ◌+◌, Bool, List, [], ◌∷◌}
-use Rattle.model.specs.Lists.{if◌then◌else◌}
+use Rattle.std.specs.Prelude.{ℕ, ◌+◌, Bool, List, [], ◌∷◌, if◌then◌else◌}
 
 -- the figure of one mark, and how two figures are joined; where there is no mark the figure is 0
 pub record Operation (M : Type 0) : Type 0 where

@@ -1,11 +1,11 @@
 -- How many nodes the collection comes to, on any words: for a tree that is said to weigh w at most 2w - 1, since each node gives its children parts of its
 -- weight, none of them 0. The count follows the mirror test by test, and the code makes one call for each: both are seen by reading. Assumes nothing.
+use Rattle.std.specs.Prelude.{if◌then◌else◌}
 use Prim.Native.Nat.{ℕ, zero, suc, ◌+◌, ◌-◌, ◌*◌, ◌/◌, ◌%◌, ◌≤◌}
 use mathlib.Core.List.{List}
 use native.Mathlib.Omega.{arith}
 use lib.Dec.{leb, eqb}
 use borrow.Author.Tests.{eqb-false, leb-false}
-use Rattle.model.specs.Lists.{if◌then◌else◌}
 use Rattle.model.proofs.Logic.{by_cases}
 use Rattle.nodes.specs.Arms.{Record, record_at}
 use Rattle.table.specs.After.{After}

@@ -1,7 +1,6 @@
 -- The mirror of the collection of a tree's slots. Assumes nothing.
-use Rattle.std.specs.Prelude.{ℕ, zero, suc, ◌+◌, ◌*◌, ◌-◌, ◌/◌, ◌%◌, ◌≡◌, refl, Bool, false, List, leb, ltb, eqb, set}
+use Rattle.std.specs.Prelude.{ℕ, zero, suc, ◌+◌, ◌*◌, ◌-◌, ◌/◌, ◌%◌, ◌≡◌, refl, Bool, false, List, leb, ltb, eqb, set, if◌then◌else◌}
 use Rattle.std.proofs.Common.{arith}
-use Rattle.model.specs.Lists.{if◌then◌else◌}
 use Rattle.table.specs.Layout.{run_place}
 use Rattle.table.specs.After.{After, after}
 use Rattle.table.specs.Limits.{deepest, damaged}

@@ -1,9 +1,8 @@
 -- The mirror of a count along one side of a box, for main and auxiliary trees alike: what a tree of either kind has of its own is a parameter. It goes
 -- down to the node where the ends of the side part, and from there beneath each child with one end to look for. Assumes nothing.
 use Prim.Native.Nat.{ℕ, zero, suc, ◌-◌, ◌/◌, ◌%◌, ◌^◌}
-use Rattle.std.specs.Prelude.{◌≡◌, refl, Bool, not, List, leb}
+use Rattle.std.specs.Prelude.{◌≡◌, refl, Bool, not, List, leb, if◌then◌else◌}
 use native.Mathlib.Omega.{arith}
-use Rattle.model.specs.Lists.{if◌then◌else◌}
 use Rattle.model.specs.Axis.{Axis}
 use Rattle.model.specs.Totals.{counting}
 use Rattle.model.specs.Register.{Found}

@@ -1,6 +1,5 @@
 -- Weights of nodes: their sums, and the balance of a node over two trees. Assumes nothing.
-use Rattle.std.specs.Prelude.{ℕ, ◌+◌, ◌*◌, ◌%◌, Bool, false, ◌&&◌, leb, ltb}
-use Rattle.model.specs.Lists.{if◌then◌else◌}
+use Rattle.std.specs.Prelude.{ℕ, ◌+◌, ◌*◌, ◌%◌, Bool, false, ◌&&◌, leb, ltb, if◌then◌else◌}
 
 -- the sum of two weights, which are far below 2^32
 unfoldable pub sum : ℕ → ℕ → ℕ

@@ -1,5 +1,6 @@
 -- On words that hold a main tree, the mirror of the finding gives the slot of a mark that stands there, and `absent` for one that does not. Assumes
 -- nothing.
+use Rattle.std.specs.Prelude.{if◌then◌else◌}
 use Prim.Native.Nat.{ℕ, zero, suc, ◌+◌, ◌*◌, ◌/◌, ◌%◌, ◌<◌}
 use mathlib.Core.Path.{◌≡◌, refl, ◌∙◌}
 use mathlib.Core.Bool.{true, false}
@@ -8,7 +9,7 @@ use native.Mathlib.Omega.{arith}
 use lib.Dec.{eqb}
 use lib.ListN.{get_or}
 use borrow.Author.Tests.{eq-eqb, ne_eqb, eqb-true, lt-leb}
-use Rattle.model.specs.Lists.{if◌then◌else◌, count_if}
+use Rattle.model.specs.Lists.{count_if}
 use Rattle.model.specs.Tree.{leaf, node, weight, depth, marks, least}
 use Rattle.model.specs.Sheet.{Mark, sheet, same, below_x, along_x}
 use Rattle.model.specs.Slots.{slot_space, slot_axis}

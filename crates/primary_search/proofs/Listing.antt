@@ -1,5 +1,6 @@
 -- On words that hold a two-fold tree by the rules, the mirror of the listing writes the marks of the slots that it meets, in the order in which it meets
 -- them, and gives the model's visits. Those slots are the model's, perhaps in another order. Assumes nothing.
+use Rattle.std.specs.Prelude.{if◌then◌else◌}
 use Prim.Native.Nat.{ℕ, zero, suc, ◌+◌, ◌*◌, ◌/◌, ◌%◌, ◌≤◌, ◌<◌}
 use mathlib.Core.Path.{◌≡◌, refl}
 use mathlib.Core.Bool.{true, false}
@@ -10,7 +11,7 @@ use native.Mathlib.Nat.{zero-add}
 use borrow.Author.Tests.{lt-leb, le-leb, le-ltb, eq-eqb, ne_eqb}
 use lib.ListN.{length, get_or, length-append}
 use lib.Seq.{sets, length-sets}
-use Rattle.model.specs.Lists.{if◌then◌else◌, filter_by}
+use Rattle.model.specs.Lists.{filter_by}
 use Rattle.model.specs.Register.{Listed}
 use Rattle.model.specs.Tree.{leaf, node, weight, depth, marks, least}
 use Rattle.model.specs.Search.{inside, clear, search_list}

@@ -1,7 +1,6 @@
 -- The mirrors of the count in a table: those of either kind of tree (Rattle.nodes.specs.Count), along x, where the arrival at a tree inside the side hands
 -- over to its auxiliary tree. Assumes nothing.
-use Rattle.std.specs.Prelude.{ℕ, ◌-◌, ◌/◌, ◌%◌, List, leb, ltb, eqb, length, get_or}
-use Rattle.model.specs.Lists.{if◌then◌else◌}
+use Rattle.std.specs.Prelude.{ℕ, ◌-◌, ◌/◌, ◌%◌, List, leb, ltb, eqb, length, get_or, if◌then◌else◌}
 use Rattle.model.specs.Sheet.{Box, along_x, holds}
 use Rattle.table.specs.Layout.{capacity_place, main_place, auxiliary_place, root_place, record_width, level_end}
 use Rattle.table.specs.Limits.{deepest, lost_count}

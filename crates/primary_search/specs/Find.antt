@@ -1,7 +1,6 @@
 -- The mirror of the finding. Assumes nothing.
-use Rattle.std.specs.Prelude.{ℕ, zero, suc, ◌-◌, ◌/◌, ◌%◌, ◌≡◌, refl, List, leb, eqb, get_or}
+use Rattle.std.specs.Prelude.{ℕ, zero, suc, ◌-◌, ◌/◌, ◌%◌, ◌≡◌, refl, List, leb, eqb, get_or, if◌then◌else◌}
 use Rattle.std.proofs.Common.{arith}
-use Rattle.model.specs.Lists.{if◌then◌else◌}
 use Rattle.model.specs.Sheet.{Mark, same, below_x}
 use Rattle.table.specs.Layout.{capacity_place, main_place, root_place}
 use Rattle.table.specs.Limits.{deepest, damaged, absent}

@@ -1,7 +1,6 @@
 -- The mirror of the listing in a table of a capacity: a node that is of no slot is damage, and so is a level that is not all there. Assumes nothing.
-use Rattle.std.specs.Prelude.{ℕ, zero, suc, ◌-◌, ◌/◌, ◌%◌, ◌≡◌, refl, List, Bool, true, leb, ltb, eqb, length, get_or}
+use Rattle.std.specs.Prelude.{ℕ, zero, suc, ◌-◌, ◌/◌, ◌%◌, ◌≡◌, refl, List, Bool, true, leb, ltb, eqb, length, get_or, if◌then◌else◌}
 use Rattle.std.proofs.Common.{arith}
-use Rattle.model.specs.Lists.{if◌then◌else◌}
 use Rattle.model.specs.Axis.{cell_inside, cell_clear}
 use Rattle.model.specs.Sheet.{Mark, Box, along_x, holds}
 use Rattle.table.specs.Layout.{capacity_place, main_place, auxiliary_place, root_place, list_place, level_end}

@@ -1,7 +1,6 @@
 -- The mirror of the lifting. Assumes nothing.
-use Rattle.std.specs.Prelude.{ℕ, zero, suc, ◌-◌, ◌/◌, ◌%◌, ◌≡◌, refl, List, leb, ltb, eqb, length}
+use Rattle.std.specs.Prelude.{ℕ, zero, suc, ◌-◌, ◌/◌, ◌%◌, ◌≡◌, refl, List, leb, ltb, eqb, length, if◌then◌else◌}
 use Rattle.std.proofs.Common.{arith}
-use Rattle.model.specs.Lists.{if◌then◌else◌}
 use Rattle.table.specs.Layout.{main_place, auxiliary_place, record_place, level_end}
 use Rattle.table.specs.Limits.{sibling_deepest}
 use Rattle.nodes.specs.Arms.{Record, arm_at, record_at}

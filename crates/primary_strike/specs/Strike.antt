@@ -1,7 +1,6 @@
 -- The mirror of the strike from the two-fold tree. Assumes nothing.
-use Rattle.std.specs.Prelude.{ℕ, zero, suc, ◌+◌, ◌-◌, ◌/◌, ◌%◌, ◌≡◌, refl, not, List, leb, eqb}
+use Rattle.std.specs.Prelude.{ℕ, zero, suc, ◌+◌, ◌-◌, ◌/◌, ◌%◌, ◌≡◌, refl, not, List, leb, eqb, if◌then◌else◌}
 use Rattle.std.proofs.Common.{arith}
-use Rattle.model.specs.Lists.{if◌then◌else◌}
 use Rattle.model.specs.Sheet.{Mark, along_x}
 use Rattle.table.specs.Layout.{main_place, auxiliary_place, root_place}
 use Rattle.table.specs.Limits.{deepest, damaged, sibling_deepest}

@@ -1,4 +1,5 @@
 -- The calls that only read the table: count and check. Assumes nothing.
+use Rattle.std.specs.Prelude.{if◌then◌else◌}
 use Prim.Native.Nat.{ℕ, ◌-◌, ◌≤◌, ◌<◌}
 use mathlib.Core.Path.{◌≡◌, refl, sym, ap, subst, ◌∙◌}
 use mathlib.Core.Logic.{◌≢◌, ◌⊎◌, inl, inr}
@@ -9,7 +10,7 @@ use native.Mathlib.Nat.{sub-zero}
 use lib.Dec.{eqb, ltb}
 use lib.ListN.{length, take}
 use borrow.Author.Tests.{eqb-true, eqb-false, ltb-true, ltb-false}
-use Rattle.model.specs.Lists.{if◌then◌else◌, count_if}
+use Rattle.model.specs.Lists.{count_if}
 use Rattle.model.specs.Tree.{marks_of}
 use Rattle.model.specs.Sheet.{Box, Main, box_crossed, holds, main}
 use Rattle.model.specs.Refusals.{enter_box}

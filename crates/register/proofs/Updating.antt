@@ -1,4 +1,5 @@
 -- Insertion and strike: what they do with a table's own words, and so what the calls perform. Assumes nothing.
+use Rattle.std.specs.Prelude.{if◌then◌else◌}
 use Prim.Native.Nat.{ℕ, ◌≤◌, ◌<◌}
 use mathlib.Core.Path.{◌≡◌, refl, sym, ap, ap₂, ◌∙◌}
 use mathlib.Core.Logic.{◌≢◌}
@@ -8,7 +9,7 @@ use native.Mathlib.Omega.{arith}
 use lib.Dec.{eqb}
 use lib.ListN.{length, get_or, set}
 use borrow.Author.Tests.{eqb-true, eqb-false, eq-eqb, ne_eqb, ltb-true, ltb-false}
-use Rattle.model.specs.Lists.{if◌then◌else◌, count_if, insert_sorted, remove_first}
+use Rattle.model.specs.Lists.{count_if, insert_sorted, remove_first}
 use Rattle.model.specs.Tree.{marks_of}
 use Rattle.model.specs.Sheet.{Mark, Main, mark_outside, grade_outside, same, below_x}
 use Rattle.model.specs.Refusals.{enter_mark, name_mark}

@@ -1,7 +1,6 @@
 -- Document 01's number and figures for each case of an answer ("Where each call may stop": a refusal gives "0 for every other figure; number 10 also
 -- returns k"), as the history's record of figures. Assumes nothing.
-use Rattle.std.specs.Prelude.{ℕ, List, [], eqb}
-use Rattle.model.specs.Lists.{if◌then◌else◌}
+use Rattle.std.specs.Prelude.{ℕ, List, [], eqb, if◌then◌else◌}
 use Rattle.model.specs.Sheet.{Mark}
 use Rattle.model.specs.History.{Answer, refusal, updated, counted}
 use Rattle.table.specs.Marks.{list_marks}

@@ -1,6 +1,5 @@
 -- What the functions of src/ give, step by step, with the mirrors of the crates below. Assumes nothing.
-use Rattle.std.specs.Prelude.{ℕ, ◌+◌, ◌*◌, ◌%◌, ◌≤◌, ◌<◌, ◌≡◌, ◌⊎◌, List, ◌++◌, ltb, eqb, length, get_or, set, take, drop}
-use Rattle.model.specs.Lists.{if◌then◌else◌}
+use Rattle.std.specs.Prelude.{ℕ, ◌+◌, ◌*◌, ◌%◌, ◌≤◌, ◌<◌, ◌≡◌, ◌⊎◌, List, ◌++◌, ltb, eqb, length, get_or, set, take, drop, if◌then◌else◌}
 use Rattle.model.specs.Sheet.{Mark, Box, below_x}
 use Rattle.model.specs.Refusals.{Outcome, accepted, refused, open_table, enter_mark, name_mark, enter_box}
 use Rattle.model.specs.History.{Answer, refusal, updated, counted, which_list}

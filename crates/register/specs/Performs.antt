@@ -1,8 +1,7 @@
 -- What a call does, on any words whatever (document 01, "Where each call may stop"): the one definition that the contracts of all six calls cite, and of
 -- which a run is made (Run). Assumes nothing.
-use Rattle.std.specs.Prelude.{ℕ, ◌+◌, ◌≤◌, ◌<◌, ◌≡◌, ◌≢◌, ◌⊎◌, Bool, true, false, List, [], length, get_or, take, drop}
+use Rattle.std.specs.Prelude.{ℕ, ◌+◌, ◌≤◌, ◌<◌, ◌≡◌, ◌≢◌, ◌⊎◌, Bool, true, false, List, [], length, get_or, take, drop, if◌then◌else◌}
 use Rattle.std.proofs.Math.Option.{none}
-use Rattle.model.specs.Lists.{if◌then◌else◌}
 use Rattle.model.specs.Sizes.{W}
 use Rattle.model.specs.Tree.{marks_of}
 use Rattle.model.specs.Sheet.{Mark, Box, Main}

@@ -1,7 +1,6 @@
 -- The mirror of the copy. Assumes nothing.
-use Rattle.std.specs.Prelude.{ℕ, zero, suc, ◌-◌, ◌/◌, ◌%◌, ◌≡◌, refl, List, leb, eqb}
+use Rattle.std.specs.Prelude.{ℕ, zero, suc, ◌-◌, ◌/◌, ◌%◌, ◌≡◌, refl, List, leb, eqb, if◌then◌else◌}
 use Rattle.std.proofs.Common.{arith}
-use Rattle.model.specs.Lists.{if◌then◌else◌}
 use Rattle.nodes.specs.Arms.{Record, record_at, put_record}
 
 -- from a node's number and the words

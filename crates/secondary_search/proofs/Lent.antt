@@ -1,5 +1,6 @@
 -- A level whose records are lent by themselves is counted as it stands among the words of the table: the mirrors of the count read its records and nothing
 -- else. Assumes nothing.
+use Rattle.std.specs.Prelude.{if◌then◌else◌}
 use Prim.Native.Nat.{ℕ, zero, suc, ◌+◌, ◌*◌, ◌-◌, ◌/◌, ◌≤◌, ◌<◌}
 use mathlib.Core.Path.{◌≡◌, refl, ap, ap₂, ◌∙◌}
 use mathlib.Core.Bool.{Bool, true, false}
@@ -9,7 +10,6 @@ use lib.Dec.{leb}
 use lib.Seq.{length-take-le}
 use borrow.Author.Tests.{leb-false, le-leb, lt-leb}
 use lib.ListN.{length, get_or, take, drop, length-drop}
-use Rattle.model.specs.Lists.{if◌then◌else◌}
 use Rattle.model.specs.Sheet.{Box, along_y}
 use Rattle.table.specs.Layout.{arm_width, record_width, record_place, level_end}
 use Rattle.table.specs.Limits.{deepest}

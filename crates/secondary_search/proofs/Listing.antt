@@ -1,5 +1,6 @@
 -- On words that hold an auxiliary tree whose slots are on the box's x side, the mirror of the listing writes the marks of the slots that it meets, in
 -- the tree's order, and adds the model's visits. Those slots are the model's, perhaps in another order. Assumes nothing.
+use Rattle.std.specs.Prelude.{if◌then◌else◌}
 use Prim.Native.Nat.{ℕ, zero, suc, ◌+◌, ◌*◌, ◌/◌, ◌%◌, ◌-◌, ◌≤◌, ◌<◌}
 use mathlib.Core.Path.{◌≡◌, refl, sym, ◌∙◌}
 use mathlib.Core.Bool.{true, false}
@@ -9,7 +10,7 @@ use borrow.Author.Tests.{lt-leb, le-leb, eq-eqb, ne_eqb}
 use lib.Dec.{leb}
 use lib.ListN.{length, length-append, length-map}
 use lib.Seq.{sets, length-sets}
-use Rattle.model.specs.Lists.{if◌then◌else◌, filter_by}
+use Rattle.model.specs.Lists.{filter_by}
 use Rattle.model.specs.Axis.{on_side}
 use Rattle.model.specs.Register.{Listed, innermost}
 use Rattle.model.specs.Tree.{Tree, leaf, node, weight, depth, marks, least}

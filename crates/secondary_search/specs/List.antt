@@ -1,7 +1,6 @@
 -- The mirror of the listing in a table of a capacity: a node that is of no slot is damage. Assumes nothing.
-use Rattle.std.specs.Prelude.{ℕ, zero, suc, ◌-◌, ◌/◌, ◌%◌, ◌≡◌, refl, List, leb, eqb}
+use Rattle.std.specs.Prelude.{ℕ, zero, suc, ◌-◌, ◌/◌, ◌%◌, ◌≡◌, refl, List, leb, eqb, if◌then◌else◌}
 use Rattle.std.proofs.Common.{arith}
-use Rattle.model.specs.Lists.{if◌then◌else◌}
 use Rattle.model.specs.Axis.{cell_inside, cell_clear}
 use Rattle.model.specs.Sheet.{Box, along_y}
 use Rattle.table.specs.Layout.{record_place, list_place}

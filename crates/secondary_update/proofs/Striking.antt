@@ -1,4 +1,5 @@
 -- The strike of a slot that stands in a tree: what it leaves of the tree, and that the mirror of the strike leaves words that hold it. Assumes nothing.
+use Rattle.std.specs.Prelude.{if◌then◌else◌}
 use Prim.Native.Nat.{ℕ, zero, suc, ◌+◌, ◌*◌, ◌-◌, ◌/◌, ◌≤◌, ◌<◌}
 use mathlib.Core.Path.{◌≡◌, refl, sym, ap, subst, ◌∙◌}
 use mathlib.Core.Bool.{Bool, true, false}
@@ -8,7 +9,7 @@ use native.Mathlib.Omega.{arith}
 use lib.Dec.{eqb}
 use lib.ListN.{length}
 use borrow.Author.Tests.{lt-leb, eq-eqb, ne_eqb, eqb-true, eqb-false}
-use Rattle.model.specs.Lists.{if◌then◌else◌, indicator}
+use Rattle.model.specs.Lists.{indicator}
 use Rattle.model.specs.Axis.{Space, Axis}
 use Rattle.model.specs.Register.{Register}
 use Rattle.model.specs.Tree.{Tree, leaf, node, weight, depth, marks, least, evenly, Balanced, build, with_left, with_right, strike_leaf, rebalance, rebuilt}

@@ -1,7 +1,6 @@
 -- The mirror of the strike, along any axis. Assumes nothing.
-use Rattle.std.specs.Prelude.{ℕ, zero, suc, ◌+◌, ◌-◌, ◌/◌, ◌≡◌, refl, not, List, leb, ltb, eqb, length}
+use Rattle.std.specs.Prelude.{ℕ, zero, suc, ◌+◌, ◌-◌, ◌/◌, ◌≡◌, refl, not, List, leb, ltb, eqb, length, if◌then◌else◌}
 use Rattle.std.proofs.Common.{arith}
-use Rattle.model.specs.Lists.{if◌then◌else◌}
 use Rattle.model.specs.Axis.{Axis}
 use Rattle.model.specs.Sheet.{Mark, Box, along_y}
 use Rattle.table.specs.Layout.{auxiliary_place, record_place, level_end}

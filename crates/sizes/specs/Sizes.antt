@@ -1,6 +1,5 @@
 -- What the crate's functions give on every word, and document 01's number for each case of an opening. Assumes nothing.
-use Rattle.std.specs.Prelude.{ℕ, ◌+◌, ◌*◌, min}
-use Rattle.model.specs.Lists.{if◌then◌else◌}
+use Rattle.std.specs.Prelude.{ℕ, ◌+◌, ◌*◌, min, if◌then◌else◌}
 use Rattle.model.specs.Sizes.{D, W, largest_capacity, capacity_outside}
 use Rattle.model.specs.Refusals.{Outcome, accepted, refused}
 use Rattle.sizes.specs.declared.Opening.{Opening}

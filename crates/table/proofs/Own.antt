@@ -1,7 +1,7 @@
 -- What the words say where 3 does not apply, that it does not apply where they say so, and the tests as the code makes them. Assumes nothing.
+use Rattle.std.specs.Prelude.{if◌then◌else◌}
 use Rattle.std.proofs.Common.{◌≡◌, ℕ, ◌+◌, ◌*◌, ◌≤◌, true, false, not, eqb, ltb, List, length, get_or, mul-le-mul_right, arith, ltb-false, le-ltb, eq-eqb, eqb-true}
 use borrow.Author.Tests.{not-false}
-use Rattle.model.specs.Lists.{if◌then◌else◌}
 use Rattle.model.specs.Sizes.{D, W, capacity_outside}
 use Rattle.model.proofs.Logic.{by_cases, or-neither}
 use Rattle.model.proofs.Sizes.{capacity-some, capacity-small}

@@ -1,7 +1,6 @@
 -- "any other call, table: 3: shorter than 96 words, word 0 not 1, C outside its range, shorter than W(C), or live above C" (document 01, "Where each call
 -- may stop"); "the 96-word floor becomes 104" (R-1). Assumes nothing.
-use Rattle.std.specs.Prelude.{◌≡◌, ℕ, ◌≤◌, Bool, not, ◌||◌, List, length, ◌==◌, nat_lt, slice_index}
-use Rattle.model.specs.Lists.{if◌then◌else◌}
+use Rattle.std.specs.Prelude.{◌≡◌, ℕ, ◌≤◌, Bool, not, ◌||◌, List, length, ◌==◌, nat_lt, slice_index, if◌then◌else◌}
 use Rattle.model.specs.Sizes.{W, capacity_outside}
 use Rattle.sizes.specs.Sizes.{visits_within}
 use Rattle.table.specs.Layout.{open_place, capacity_place, live_place, runs_end}

@@ -1,7 +1,6 @@
 -- Marks in words: x, y, tag, grade. Where the four words are not all there, the mark reads as zeros and nothing is written. Assumes nothing.
-use Rattle.std.specs.Prelude.{ℕ, zero, suc, ◌+◌, List, [], ◌∷◌, length, nat_le, slice_index}
+use Rattle.std.specs.Prelude.{ℕ, zero, suc, ◌+◌, List, [], ◌∷◌, length, nat_le, slice_index, if◌then◌else◌}
 use Rattle.std.proofs.lemmas.List.Edits.{sets}
-use Rattle.model.specs.Lists.{if◌then◌else◌}
 use Rattle.model.specs.Sheet.{Mark, mark}
 use Rattle.table.specs.Layout.{slot_place, list_place}
 

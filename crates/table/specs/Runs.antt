@@ -1,6 +1,5 @@
 -- Words taken for slots of a table of a capacity. Assumes nothing.
-use Rattle.std.specs.Prelude.{ℕ, List, nat_lt, slice_index}
-use Rattle.model.specs.Lists.{if◌then◌else◌}
+use Rattle.std.specs.Prelude.{ℕ, List, nat_lt, slice_index, if◌then◌else◌}
 use Rattle.table.specs.Layout.{run_place}
 
 -- a word that is no slot of the table is taken for slot 0

@@ -1,6 +1,5 @@
 -- The lesser and the greater of two words. Assumes nothing.
-use Rattle.std.specs.Prelude.{ℕ, nat_lt}
-use Rattle.model.specs.Lists.{if◌then◌else◌}
+use Rattle.std.specs.Prelude.{ℕ, nat_lt, if◌then◌else◌}
 
 unfoldable pub lesser : ℕ → ℕ → ℕ
 lesser a b = if nat_lt b a then b else a

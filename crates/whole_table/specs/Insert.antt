@@ -1,6 +1,5 @@
 -- The mirror of the insertion into a table. Assumes nothing.
-use Rattle.std.specs.Prelude.{ℕ, List, leb, get_or, set}
-use Rattle.model.specs.Lists.{if◌then◌else◌}
+use Rattle.std.specs.Prelude.{ℕ, List, leb, get_or, set, if◌then◌else◌}
 use Rattle.model.specs.Sheet.{Mark}
 use Rattle.table.specs.Layout.{capacity_place, live_place, slot_place, used_place}
 use Rattle.table.specs.Limits.{damaged}
