@@ -1,6 +1,6 @@
 /* A planner at work: the camera enters flaws with their grades, the washer strikes some off, trial panes are counted and judged by the sum of their grades, and
    the marks of the worst pane are listed.
-   gcc -O2 -Iinclude examples/planner.c target/staticlib/libmarkregister.a -o target/planner */
+   gcc -O2 -Iinclude examples/planner.c crates/markregister/out/libmarkregister.a -o target/planner */
 #include "markregister.h"
 
 #include <stdio.h>
