@@ -1,5 +1,6 @@
 -- The strike of a slot that stands in a tree: what it leaves of the tree, and that the mirror of the strike leaves words that hold it. Assumes nothing.
 use Rattle.std.specs.Prelude.{if◌then◌else◌}
+use Rattle.std.specs.Bool.{MatchBool}
 use Prim.Native.Nat.{ℕ, zero, suc, ◌+◌, ◌*◌, ◌-◌, ◌/◌, ◌≤◌, ◌<◌}
 use mathlib.Core.Path.{◌≡◌, refl, sym, ap, subst, ◌∙◌}
 use mathlib.Core.Bool.{Bool, true, false}
@@ -47,7 +48,7 @@ module _ {I : Type 0} (A : Axis Mark Box) (f : ℕ → Mark) (s : ℕ) where
   -- the way by the order leads to the slot's own leaf
   abbrev pub Leads : Tree ℕ I → Type 0
   Leads (leaf q) = q ≡ s
-  Leads (node i l r) = if A.below (f s) (f (least r)) then Leads l else Leads r
+  Leads (node i l r) = MatchBool (A.below (f s) (f (least r))) (Leads l) (Leads r)
 
   -- in an ordered tree it does, for every slot that stands there
   module _ {S : Space Mark Box} (E : SamenessLaws S) (O : AxisLaws S A) where
