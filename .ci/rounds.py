@@ -19,6 +19,10 @@ A function that is proved without a file has its place in the file that rt asks 
 
 An edit without any `at:` line is one fault, and an error of its own in any file will do.
 
+Goals and steps of a proof are named after the source (`returns-then-x-y`), so a fault in a condition would only take a name away. Therefore the answers of an edited
+crate follow the edited code first: `rt check --generated --old-names` numbers the goals and steps of a function in the order of its source, and each answer gets the
+name that its number has in the edited code. So the answer itself is what is refused.
+
 An error is no fault's own where it only says that something else was refused (`was not admitted`), or that the proof no longer fits the edited code: it names a
 goal that is not there (`can be named from here`), or goes a way that is not there (`has no field`, `expected a type`). Then nothing is shown to be false. And rt
 tries no tactic at a function that calls one which is not proved, so a fault that its round does not show is tried once more by itself.
@@ -27,6 +31,7 @@ Prints a line for each fault and last 'N passed, M failed'; the exit status is 0
 """
 import collections
 import concurrent.futures
+import json
 import os
 import pathlib
 import queue
@@ -118,25 +123,68 @@ def copy_crates(to):
                 (there / name).write_bytes(text)
 
 
+def names(home):
+    """The goals and the steps of each function of the crate: a list of [number, name] for the goals, and one for the steps; {} where rt gives none."""
+    with tempfile.TemporaryDirectory(prefix='rounds-names-') as folder:
+        run(home, 'check', '--generated', folder, '--old-names')
+        file = pathlib.Path(folder, 'names.json')
+        told = json.loads(file.read_text(encoding='utf8')) if file.is_file() else {}
+    found = {}
+    for key, of in told.items():
+        at = re.match(r'Rattle-\w+-proofs\.(.*)\.Lts(?:-\w+)?$', key)
+        if at and isinstance(of, dict) and 'needs' in of:
+            found['proofs/' + at[1].replace('.', '/')] = of['needs'], [place[2] for place in of['places']]
+    return found
+
+
+def follow(home, was, now):
+    """Gives the answers of each function whose goals or steps have other names in the edited code those names; returns the names of goals by file."""
+    goals = {}
+    for folder, (needs, steps) in was.items():
+        file = home / folder / 'Answers.antt'
+        if folder not in now or (needs, steps) == now[folder] or not file.is_file():
+            continue
+        new_needs, new_steps = dict(now[folder][0]), dict(now[folder][1])
+        of_goal = {name: new_needs.get(number, name) for number, name in needs}
+        of_step = {name: new_steps.get(number, name) for number, name in steps}
+        goals[folder + '/Answers.antt'] = of_goal
+        text = file.read_text(encoding='utf8')
+        text = re.sub(r"(?<![\w.'-])([cw]\.)([\w-]+)", lambda m: m[1] + of_step.get(m[2], m[2]), text)
+        text = re.sub(r'(?m)^(pub )([\w-]+)( : goal\.)([\w-]+)', lambda m: m[1] + of_goal.get(m[2], m[2]) + m[3] + of_goal.get(m[4], m[4]), text)
+        text = re.sub(r'(?m)^([\w-]+)(?= (?:\w+ )*c =)', lambda m: of_goal.get(m[1], m[1]), text)
+        file.write_text(text, encoding='utf8')
+    return goals
+
+
+def run(home, *words):
+    return subprocess.run(['rt', *words], cwd=home, stdin=subprocess.DEVNULL, stdout=subprocess.PIPE, stderr=subprocess.STDOUT, text=True, errors='replace').stdout
+
+
 def check(room, crate, faults):
-    """Checks the crate in that copy with these faults in it, and gives what is refused there; None where a fault cannot be put in."""
+    """Checks the crate in that copy with these faults in it, and gives what is refused there, under the names of the crate as it stands; None where a fault cannot be
+    put in."""
     home, texts = room / 'crates' / crate, {}
     for file, old, new in (pair for fault in faults for pair in fault.pairs):
-        was = texts.setdefault(file, (home / file).read_text(encoding='utf8'))
-        if was.count(old) != 1:
+        text = texts.setdefault(file, (home / file).read_text(encoding='utf8'))
+        if text.count(old) != 1:
             return None
-        texts[file] = was.replace(old, new)
-    own = {file: (home / file).read_bytes() for file in texts}
+        texts[file] = text.replace(old, new)
+    was = names(home)
+    own = {file: file.read_bytes() for file in [*(home / 'proofs').rglob('Answers.antt'), *(home / file for file in texts)]}
     try:
         for file, text in texts.items():
             (home / file).write_text(text, encoding='utf8')
-        ran = subprocess.run(['rt', 'check'], cwd=home, stdin=subprocess.DEVNULL, stdout=subprocess.PIPE, stderr=subprocess.STDOUT, text=True, errors='replace')
+        goals = follow(home, was, names(home))
+        said = run(home, 'check')
     finally:
         for file, text in own.items():
-            (home / file).write_bytes(text)
+            file.write_bytes(text)
     label = '_'.join([crate] + re.findall(r'\w+', faults[0].says)[:8]) + ('_alone' if len(faults) == 1 else '')
-    (ROOM / (label + '.log')).write_text(ran.stdout, encoding='utf8')
-    return refused_places(ran.stdout) if REFUSED.search(ran.stdout) else set()
+    (ROOM / (label + '.log')).write_text(said, encoding='utf8')
+    refused = refused_places(said) if REFUSED.search(said) else set()
+    for file, of_goal in goals.items():
+        refused |= {file + ' ' + name for name, new in of_goal.items() if file + ' ' + new in refused}
+    return refused
 
 
 def read(path, rooms):
@@ -175,6 +223,12 @@ def main():
         for lines, good, bad in pool.map(lambda path: read(path, rooms), paths):
             print('\n'.join(lines), flush=True)
             passed, failed = passed + good, failed + bad
+    for number in range(jobs):
+        shutil.rmtree(ROOM / str(number), ignore_errors=True)
+    if failed:
+        print('what rt said of each: %s' % ROOM)
+    else:
+        shutil.rmtree(ROOM, ignore_errors=True)
     print('%d passed, %d failed' % (passed, failed))
     return 0 if paths and failed == 0 else 1
 
