@@ -2,7 +2,7 @@
 """Tries every fault of the must-fail edits: .ci/rounds.py [CRATE/LABEL..], at the top of the repository, after `rt ci`.
 
 rt asks of an edit only that its crate is refused. This reader asks it of every fault, and asks where and by what: it puts each crates/NAME/must-fail/LABEL.edit
-into a copy of the crates below target/rounds/, checks the crate there, and reads what `rt check` says.
+into a copy of the crates in a temporary folder, checks the crate there, and reads what `rt check` says.
 
 A round is an edit with several faults. Each is
 
@@ -144,9 +144,10 @@ def follow(home, was, now):
         file = home / folder / 'Answers.antt'
         if folder not in now or (needs, steps) == now[folder] or not file.is_file():
             continue
-        new_needs, new_steps = dict(now[folder][0]), dict(now[folder][1])
+        new_needs, new_steps = dict(now[folder][0]), now[folder][1]
         of_goal = {name: new_needs.get(number, name) for number, name in needs}
-        of_step = {name: new_steps.get(number, name) for number, name in steps}
+        alike = len(steps) == len(new_steps)  # as long as the code goes the same way, a step is known by its place, whatever it calls
+        of_step = {name: new for (number, name), (other, new) in zip(steps, new_steps) if alike or number == other}
         goals[folder + '/Answers.antt'] = of_goal
         text = file.read_text(encoding='utf8')
         text = re.sub(r"(?<![\w.'-])([cw]\.)([\w-]+)", lambda m: m[1] + of_step.get(m[2], m[2]), text)
@@ -183,7 +184,8 @@ def check(room, crate, faults):
     (ROOM / (label + '.log')).write_text(said, encoding='utf8')
     refused = refused_places(said) if REFUSED.search(said) else set()
     for file, of_goal in goals.items():
-        refused |= {file + ' ' + name for name, new in of_goal.items() if file + ' ' + new in refused}
+        edited = {place for place in refused if place.startswith(file + ' ')}
+        refused = refused - edited | {file + ' ' + name for name, new in of_goal.items() if file + ' ' + new in edited}
     return refused
 
 
