@@ -12,20 +12,20 @@ A round is an edit with several faults. Each is
     old: ..
     new: ..
 
-with as many pairs of old and new as it needs. Its place, the `at:` line (rt passes over it), is a file of proofs/ that must be refused by an error of its own: the
-answers of the function that the fault is in, or the law that a changed definition breaks. Behind the file may stand the name of the goal or law that must be
-refused, as `at: proofs/FUNCTION/Answers.antt returns-then-x`: so two faults of one function stand in one round. Otherwise no two faults of a round share a place.
-A function that is proved without a file has its place in the file that rt asks for when it is not.
+with as many pairs of old and new as it needs. Its place, the `at:` line (rt passes over it), is a file of proofs/ that must be refused by an error of its
+own: the answers of the function that the fault is in, or the law that a changed definition breaks. Behind the file may stand the name of the goal or law that
+must be refused, as `at: proofs/FUNCTION/Answers.antt returns-then-x`: so two faults of one function stand in one round. Otherwise no two faults of a round
+share a place. A function that is proved without a file has its place in the file that rt asks for when it is not.
 
 An edit without any `at:` line is one fault, and an error of its own in any file will do.
 
-Goals and steps of a proof are named after the source (`returns-then-x-y`), so a fault in a condition would only take a name away. Therefore the answers of an edited
-crate follow the edited code first: `rt check --generated --old-names` numbers the goals and steps of a function in the order of its source, and each answer gets the
-name that its number has in the edited code. So the answer itself is what is refused.
+Goals and steps of a proof are named after the source (`returns-then-x-y`), so a fault in a condition would only take a name away. Therefore the answers of an
+edited crate follow the edited code first: `rt check --generated --old-names` numbers the goals and steps of a function in the order of its source, and each
+answer gets the name that its number has in the edited code. So the answer itself is what is refused.
 
-An error is no fault's own where it only says that something else was refused (`was not admitted`), or that the proof no longer fits the edited code: it names a
-goal that is not there (`can be named from here`), or goes a way that is not there (`has no field`, `expected a type`). Then nothing is shown to be false. And rt
-tries no tactic at a function that calls one which is not proved, so a fault that its round does not show is tried once more by itself.
+An error is no fault's own where it only says that something else was refused (`was not admitted`), or that the proof no longer fits the edited code: it names
+a goal that is not there (`can be named from here`), or goes a way that is not there (`has no field`, `expected a type`). Then nothing is shown to be false.
+And rt tries no tactic at a function that calls one which is not proved, so a fault that its round does not show is tried once more by itself.
 
 Prints a line for each fault and last 'N passed, M failed'; the exit status is 0 only where M is 0.
 """
@@ -158,12 +158,14 @@ def follow(home, was, now):
 
 
 def run(home, *words):
-    return subprocess.run(['rt', *words], cwd=home, stdin=subprocess.DEVNULL, stdout=subprocess.PIPE, stderr=subprocess.STDOUT, text=True, errors='replace').stdout
+    """What rt says of these words in the crate's folder."""
+    streams = {'stdin': subprocess.DEVNULL, 'stdout': subprocess.PIPE, 'stderr': subprocess.STDOUT}
+    return subprocess.run(['rt', *words], cwd=home, text=True, errors='replace', **streams).stdout
 
 
 def check(room, crate, faults):
-    """Checks the crate in that copy with these faults in it, and gives what is refused there, under the names of the crate as it stands; None where a fault cannot be
-    put in."""
+    """Checks the crate in that copy with these faults in it, and gives what is refused there, under the names of the crate as it stands; None where a fault
+    cannot be put in."""
     home, texts = room / 'crates' / crate, {}
     for file, old, new in (pair for fault in faults for pair in fault.pairs):
         text = texts.setdefault(file, (home / file).read_text(encoding='utf8'))

@@ -52,7 +52,8 @@ module _ (xs : List ℕ) where
 module _ (C live : ℕ) (xs : List ℕ) where
   -- the slots that an auxiliary tree may have
   pub auxiliary-slot : (first last s : ℕ) → auxiliary_slot♯ C live first last xs s ≡ true
-      → (live_slot♯ C live xs s ≡ true) × (below_x (slot_mark xs s) (slot_mark xs first) ≡ false) × (below_x (slot_mark xs last) (slot_mark xs s) ≡ false)
+      → (live_slot♯ C live xs s ≡ true) × (below_x (slot_mark xs s) (slot_mark xs first) ≡ false)
+      × (below_x (slot_mark xs last) (slot_mark xs s) ≡ false)
   unfolding auxiliary_slot♯
   auxiliary-slot first last s e =
       let low = below_x (slot_mark xs s) (slot_mark xs first) in

@@ -68,7 +68,8 @@ module _ (C : ℕ) (xs : List ℕ) where
     first-times s h = firsts-times used_of place_of n (λ i k. (v.used i (omega arith)).1) s ∙ rw (eq-eqb (used_of (place_of s)) s (v.place s h).1)
 
     -- as many live slots as stand in a list, each once: those are all
-    pub live-once : (l : List ℕ) → ((s : ℕ) → times_in s l ≤ 1) → ((s : ℕ) → 0 < times_in s l → (s < C) × (place_of s < n)) → length l ≡ n
+    pub live-once : (l : List ℕ) → ((s : ℕ) → times_in s l ≤ 1) → ((s : ℕ) → 0 < times_in s l → (s < C) × (place_of s < n))
+        → length l ≡ n
         → (s : ℕ) → s < C → times_in s l ≡ indicator (ltb (place_of s) n)
     live-once l once live many s h =
         let no_more : ((q : ℕ) → times_in q l ≤ times_in q (firsts used_of n)) =

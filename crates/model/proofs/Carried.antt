@@ -17,7 +17,8 @@ use Rattle.model.proofs.Sorted.{below_apart, distinct_cons, distinct-left, disti
 use Rattle.model.proofs.Tree.{build-induction, rebalance-marks, insert-marks, strike-marks, all_above, left-all-below, marks-pos}
 
 module _
-    {M B I : Type 0} (S : Space M B) (E : SamenessLaws S) (A : Axis M B) (O : AxisLaws S A) (R : Register M B I) (settled : B → M → Bool) (bound : ℕ → ℕ)
+    {M B I : Type 0} (S : Space M B) (E : SamenessLaws S) (A : Axis M B) (O : AxisLaws S A) (R : Register M B I) (settled : B → M → Bool)
+        (bound : ℕ → ℕ)
     (L : RegisterLaws S R settled bound) where
   abbrev pub Carried : Tree M I → Type 0
   Carried (leaf m) = Unit {0}

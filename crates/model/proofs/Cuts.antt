@@ -180,7 +180,8 @@ module _ (b : Box) (s : State) where
 
 -- THE PANES, of the history's answers
 pub tiles-answers : (b : Box) (ps : List Box) → Tiles b ps → (s : State)
-    → ((answer (count b) s).k ≡ total ◌+◌ (λ p. (answer (count p) s).k) ps) × ((answer (count b) s).sum ≡ total ◌+◌ (λ p. (answer (count p) s).sum) ps)
+    → ((answer (count b) s).k ≡ total ◌+◌ (λ p. (answer (count p) s).k) ps)
+    × ((answer (count b) s).sum ≡ total ◌+◌ (λ p. (answer (count p) s).sum) ps)
     × ((answer (count b) s).worst ≡ total max (λ p. (answer (count p) s).worst) ps)
 tiles-answers b ps t s = (
   answer-k b s

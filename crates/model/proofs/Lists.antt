@@ -162,7 +162,8 @@ module _ {M : Type 0} where
       by_cases (p q) (λ t. rw t) (λ f. rw (f, remove_first-left p l r (rw (f, zero-add) at h)))
 
   -- where at most one passes
-  pub remove_first-count_if : (p q : M → Bool) (l : List M) → count_if q l ≤ 1 → count_if p (remove_first q l) + count_if (λ m. q m && p m) l ≡ count_if p l
+  pub remove_first-count_if : (p q : M → Bool) (l : List M) → count_if q l ≤ 1
+      → count_if p (remove_first q l) + count_if (λ m. q m && p m) l ≡ count_if p l
   remove_first-count_if p q [] h = refl
   remove_first-count_if p q (m ∷ l) h =
       by_cases (q m)

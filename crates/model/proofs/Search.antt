@@ -15,7 +15,8 @@ use Rattle.model.proofs.Sorted.{sorted-left, sorted-right, sorted-across}
 use Rattle.model.proofs.Tree.{all-least, all-greatest}
 
 -- a cell with a coordinate on the box's side is not clear
-on_side-not-clear : {M B : Type 0} (S : Space M B) (A : Axis M B) (O : AxisLaws S A) (b : B) (lo hi v : ℕ) → lo ≤ v → v ≤ hi → on_side A b v ≡ true
+on_side-not-clear : {M B : Type 0} (S : Space M B) (A : Axis M B) (O : AxisLaws S A) (b : B) (lo hi v : ℕ) → lo ≤ v → v ≤ hi
+    → on_side A b v ≡ true
     → cell_clear A b lo hi ≡ false
 on_side-not-clear S A O b lo hi v p q e =
     rw (

@@ -164,7 +164,8 @@ module _ {N M : Type 0} (f : N → M) where
           (λ u. rw (t, u))
           (λ u. rw (t, u) (ap arrive (ap₂ together (map-search b l) (map-search b r))))))
 
-      pub map-search_list : (b : B) (t : Tree N I) → map_listed f (search_list (slot_space f S) (slot_axis f A) R b t) ≡ search_list S A Q b (map_tree f g t)
+      pub map-search_list : (b : B) (t : Tree N I) → map_listed f (search_list (slot_space f S) (slot_axis f A) R b t)
+          ≡ search_list S A Q b (map_tree f g t)
       map-search_list b (leaf m) = ap (λ l. record { marks = l; visits = 1 }) (map-filter_by (S.holds b) (m ∷ []))
       map-search_list b (node i l r) =
           let ll = search_list (slot_space f S) (slot_axis f A) R b l in
@@ -237,7 +238,8 @@ module _ {N M : Type 0} (f : N → M) where
 
 -- the two-fold register over slots that hold the sheet's marks
 module _ {N : Type 0} (f : N → Mark) where
-  pub auxiliary-stands : StandsFor f (Option.map (map_tree f (map f))) (fold (slot_space f sheet) (slot_axis f along_y) (innermost (slot_space f sheet))) auxiliary
+  pub auxiliary-stands : StandsFor f (Option.map (map_tree f (map f)))
+      (fold (slot_space f sheet) (slot_axis f along_y) (innermost (slot_space f sheet))) auxiliary
   auxiliary-stands = fold-stands f (map f) sheet along_y (innermost (slot_space f sheet)) (innermost sheet) (innermost-stands f sheet)
 
   pub main-stands :

@@ -49,7 +49,8 @@ main-laws = fold-laws sheet sheet-sameness along_x along_x-laws auxiliary unsett
 -- a strike goes by sameness: what it leaves and its figure are those of any mark that is the same
 module _ (a b : Mark) (e : same a b ≡ true) where
   auxiliary-strike-alike : (o : Auxiliary) → auxiliary.strike a o ≡ auxiliary.strike b o
-  auxiliary-strike-alike = fold-strike-alike sheet sheet-sameness a b e along_y along_y-laws (innermost sheet) (innermost-strike-alike sheet sheet-sameness a b e)
+  auxiliary-strike-alike = fold-strike-alike sheet sheet-sameness a b e along_y along_y-laws (innermost sheet)
+      (innermost-strike-alike sheet sheet-sameness a b e)
 
   pub main-strike-alike : (o : Main) → main.strike a o ≡ main.strike b o
   main-strike-alike = fold-strike-alike sheet sheet-sameness a b e along_x along_x-laws auxiliary auxiliary-strike-alike

@@ -30,7 +30,8 @@ pub clear-past : {M I : Type 0} (A : Axis M Box) (b : Box) (t : Tree M I) → A.
 clear-past A b t e = or_true_right (not (A.from_low b (A.at (greatest t)))) (not (A.to_high b (A.at (least t)))) (rw e)
 
 -- T is a tally, onto which a count's figures are added: those of two trees one after the other, in either order, and those of a node after its own visit
-module _ {I T : Type 0} (K : Kind T) (X : Axis Mark Box) (b : Box) (f : ℕ → Mark) (R : Register ℕ Box I) (O : AxisLaws (slot_space f sheet) (slot_axis f X))
+module _ {I T : Type 0} (K : Kind T) (X : Axis Mark Box) (b : Box) (f : ℕ → Mark) (R : Register ℕ Box I)
+    (O : AxisLaws (slot_space f sheet) (slot_axis f X))
     (C : ℕ) (xs : List ℕ) (add : Found ℕ → T → T) (add-both : (g h : Found ℕ) (tally : T) → add (together g h) tally ≡ add h (add g tally))
     (add-swap : (g h : Found ℕ) (tally : T) → add g (add h tally) ≡ add h (add g tally))
     (add-arrive : (g : Found ℕ) (tally : T) → add (arrive g) tally ≡ add g (K.visit tally)) where
@@ -128,7 +129,8 @@ module _ {I T : Type 0} (K : Kind T) (X : Axis Mark Box) (b : Box) (f : ℕ → 
     unfolding high_from high_node
     high-node n tally = rw (half, lt-leb C (least r) o.within, o.children)
 
-    open-node : (n : ℕ) (tally : T) → open_from K S C xs (suc n) base (2 * least r + 1) tally ≡ open_record K S C xs (open_from K S C xs n) base both tally
+    open-node : (n : ℕ) (tally : T) → open_from K S C xs (suc n) base (2 * least r + 1) tally
+        ≡ open_record K S C xs (open_from K S C xs n) base both tally
     unfolding open_from open_node
     open-node n tally = rw (half, lt-leb C (least r) o.within, o.children)
 

@@ -1,5 +1,6 @@
 -- The mirror of the collection of a tree's slots. Assumes nothing.
-use Rattle.std.specs.Prelude.{ℕ, zero, suc, ◌+◌, ◌*◌, ◌-◌, ◌/◌, ◌%◌, ◌≡◌, refl, Bool, false, List, leb, ltb, eqb, set, if◌then◌else◌}
+use Rattle.std.specs.Prelude.{ℕ, zero, suc, ◌+◌, ◌*◌, ◌-◌, ◌/◌, ◌%◌, ◌≡◌}
+use Rattle.std.specs.Prelude.{refl, Bool, false, List, leb, ltb, eqb, set, if◌then◌else◌}
 use Rattle.std.proofs.Common.{arith}
 use Rattle.table.specs.Layout.{run_place}
 use Rattle.table.specs.After.{After, after}

@@ -130,7 +130,8 @@ module _ {T : Type 0} (K : Kind T) (S : Side) where
     unfolding high_from
     high_from-zero f e base n tally = rw e
 
-    pub high_from-suc : (f : ℕ) → (f ≡ 0 → ⊥) → (base n : ℕ) (tally : T) → high_from f base n tally ≡ high_node (high_from (f - 1)) base n tally
+    pub high_from-suc : (f : ℕ) → (f ≡ 0 → ⊥) → (base n : ℕ) (tally : T)
+        → high_from f base n tally ≡ high_node (high_from (f - 1)) base n tally
     unfolding high_from
     high_from-suc zero h base n tally = absurd (h refl)
     high_from-suc (suc f) h base n tally = let e : suc f - 1 ≡ f = omega arith in rw e
@@ -139,7 +140,8 @@ module _ {T : Type 0} (K : Kind T) (S : Side) where
     unfolding open_from
     open_from-zero f e base n tally = rw e
 
-    pub open_from-suc : (f : ℕ) → (f ≡ 0 → ⊥) → (base n : ℕ) (tally : T) → open_from f base n tally ≡ open_node (open_from (f - 1)) base n tally
+    pub open_from-suc : (f : ℕ) → (f ≡ 0 → ⊥) → (base n : ℕ) (tally : T)
+        → open_from f base n tally ≡ open_node (open_from (f - 1)) base n tally
     unfolding open_from
     open_from-suc zero h base n tally = absurd (h refl)
     open_from-suc (suc f) h base n tally = let e : suc f - 1 ≡ f = omega arith in rw e

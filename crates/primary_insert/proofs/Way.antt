@@ -105,7 +105,8 @@ module _ {f : ℕ → Mark} {C d at : ℕ} (i : SlotAuxiliary) (l r : SlotMain) 
       let clear : Clear C other arm_width = clear-spot (child-spot {P = Names u} name other in_c in_p out low high) in
       let fits : main_place name + record_width ≤ length ws = omega (arith, a.long) in
       record {
-        is = kept_arm in_p clear a at (two_spot-weaken w spot) (λ k. omega (arith, spot.off_nodes name (names-own i l r apart name refl) (omega arith))) ∙ is;
+        is = kept_arm in_p clear a at (two_spot-weaken w spot) (λ k. omega
+            (arith, spot.off_nodes name (names-own i l r apart name refl) (omega arith))) ∙ is;
         held = two-over i l r (record-arms ws (main_place name) ∙ ap₂ arms el er)
             (kept-own in_p clear a d name i (omega arith) within in_c out (omega arith) aux) hl hr apart;
         frame = unchanged-trans before (two_frame-at (two_frame-weaken (omega arith) (λ s k. tells s k) v (two_frame-inner name low (omega arith) a)));
@@ -123,7 +124,8 @@ module _ {f : ℕ → Mark} {C d at : ℕ} (i : SlotAuxiliary) (l r : SlotMain) 
       let within : ((s : ℕ) → 0 < times s l → s < C) = h.held.main.within in
       let in_p : ((s : ℕ) → Names l s → s < C) = λ s k. within s k.0 in
       let out : (Names l name → ⊥) = λ k. omega (arith, k.0, apart name, times-least r) in
-      let clear : Clear C (main_place name) arm_width = clear-spot (child-spot {P = Names l} name (main_place name) in_c in_p out (omega arith) (omega arith)) in
+      let clear : Clear C (main_place name) arm_width = clear-spot (child-spot {P = Names l} name (main_place name) in_c in_p out (omega arith)
+          (omega arith)) in
       let right = child-spot {P = Names l} name (main_place name + arm_width) in_c in_p out (omega arith) (omega arith) in
       two-way l (main_place name) (names-left i l r) (λ s k. omega (arith, times-node s i l r)) out (omega arith) (omega arith) in_c within h.frame h.held
       (kept-two in_p clear h.frame (suc d) r within (λ s k. inl (omega (arith, k.0, apart s))) (λ s k. omega (arith, apart s)) of

@@ -1,5 +1,6 @@
 -- The mirror of the insertion into the two-fold tree. Assumes nothing.
-use Rattle.std.specs.Prelude.{ℕ, zero, suc, ◌+◌, ◌-◌, ◌/◌, ◌%◌, ◌≤◌, ◌<◌, ◌^◌, ◌≡◌, refl, true, false, not, List, leb, eqb, length, if◌then◌else◌}
+use Rattle.std.specs.Prelude.{ℕ, zero, suc, ◌+◌, ◌-◌, ◌/◌, ◌%◌, ◌≤◌, ◌<◌, ◌^◌}
+use Rattle.std.specs.Prelude.{◌≡◌, refl, true, false, not, List, leb, eqb, length, if◌then◌else◌}
 use Rattle.std.proofs.Common.{arith}
 use Rattle.model.specs.Sheet.{Mark, below_x, along_x}
 use Rattle.table.specs.Layout.{arm_width, runs_end, main_place, auxiliary_place, root_place}

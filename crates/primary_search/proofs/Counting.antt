@@ -80,7 +80,8 @@ module _ (f : ℕ → Mark) (b : Box) where
     LaidHere = Laid (main_kind xs C b) along_x b f (slot_auxiliary f) ordered C xs (added f) (added-both f) (added-swap f) (added-arrive f)
 
     -- the arrival at a leaf, at a node whose cell is inside, and at a tree that is clear
-    leaf-adds : (s : ℕ) → slot_mark xs s ≡ f s → (f s).grade ≤ 100 → (tally : ℕ) → leaf♯ xs b s tally ≡ added f (searched_main (leaf s)) tally
+    leaf-adds : (s : ℕ) → slot_mark xs s ≡ f s → (f s).grade ≤ 100 → (tally : ℕ)
+        → leaf♯ xs b s tally ≡ added f (searched_main (leaf s)) tally
     unfolding leaf♯ added arrived
     leaf-adds s e g tally =
         rw (e, word_small (graded (f s).grade) (graded-small (f s).grade g)) (by_cases (holds b (f s)) (λ u. rw u) (λ u. rw u))
@@ -192,8 +193,10 @@ module _ (f : ℕ → Mark) (C : ℕ) (xs : List ℕ) where
       ∙ packed-fits (found.found counting) found.visits (found.found (slot_operation f grading)) weighs hv (rw graded light)
 
   -- the table's tree
-  pub count-main-holds : (t : SlotMain) → arm_at xs root_place ≡ arm_of along_x f t → TwoFold f C 0 xs t → ByRules f t → GradedMain f t → C ≤ 65536
-      → W C ≤ length xs → get_or xs capacity_place 0 ≡ C → (b : Box) → box_crossed b ≡ false → ((slot_main f).count b (some t)).visits ≤ most_visits
+  pub count-main-holds : (t : SlotMain) → arm_at xs root_place ≡ arm_of along_x f t → TwoFold f C 0 xs t → ByRules f t → GradedMain f t
+      → C ≤ 65536
+      → W C ≤ length xs → get_or xs capacity_place 0 ≡ C → (b : Box) → box_crossed b ≡ false
+      → ((slot_main f).count b (some t)).visits ≤ most_visits
       → main_count♯ xs b ≡ figures f ((slot_main f).count b (some t))
   unfolding main_count♯ count_root
   count-main-holds t root h k g small long c b fine hv =

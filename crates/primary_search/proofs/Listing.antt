@@ -130,7 +130,8 @@ module _ (f : ℕ → Mark) (b : Box) where
           ) (inner k v ys hv hk hy)
 
       list_inside : inside (slot_axis f along_x) b (node i l r) ≡ true
-          → Writes (list_beneath♯ (suc n) xs C b most (level_place C d) (arm_of along_x f (node i l r))) (met_carried i) (((slot_auxiliary f).list b i).visits + 1)
+          → Writes (list_beneath♯ (suc n) xs C b most (level_place C d) (arm_of along_x f (node i l r))) (met_carried i)
+              (((slot_auxiliary f).list b i).visits + 1)
       unfolding list_inner list_over♯
       list_inside t =
           let a = h.auxiliary in
@@ -193,7 +194,8 @@ module _ (f : ℕ → Mark) (b : Box) where
         (list-beneath small n (suc d) l (omega arith) (omega arith) h.1) (list-beneath small n (suc d) r (omega arith) (omega arith) h.2))))
 
 module _ (f : ℕ → Mark) (C : ℕ) (xs : List ℕ) where
-  pub list-main-holds : (t : SlotMain) → arm_at xs root_place ≡ arm_of along_x f t → TwoFold f C 0 xs t → ByRules f t → C ≤ 65536 → W C ≤ length xs
+  pub list-main-holds : (t : SlotMain) → arm_at xs root_place ≡ arm_of along_x f t → TwoFold f C 0 xs t → ByRules f t → C ≤ 65536
+      → W C ≤ length xs
       → get_or xs capacity_place 0 ≡ C → (b : Box) (most : ℕ) → most < 2147483648 → ((slot_main f).list b (some t)).visits ≤ most
       → (ys : List ℕ) → list_place (length (main_met f b t)) ≤ length ys → length (main_met f b t) ≤ 65536
       → main_list♯ xs b most ys

@@ -70,7 +70,8 @@ module _ (f : ℕ → Mark) (C : ℕ) (small : C ≤ 65536) (s : ℕ) where
     lefts = main_child rec C (f s) s (least r) (way true (arm_of along_x f l) (arm_of along_x f r)) (level_place C d) (weight l + weight r) (2 * least r + 1) xs
 
     abbrev rights : After Strike
-    rights = main_child rec C (f s) s (least r) (way false (arm_of along_x f r) (arm_of along_x f l)) (level_place C d) (weight l + weight r) (2 * least r + 1) xs
+    rights = main_child rec C (f s) s (least r) (way false (arm_of along_x f r) (arm_of along_x f l)) (level_place C d) (weight l + weight r)
+        (2 * least r + 1) xs
 
   -- at a node whose words are right, the mirror goes by the order
   beneath-node : (n d : ℕ) (i : SlotAuxiliary) (l r : SlotMain) (xs : List ℕ) → TwoFold f C d xs (node i l r)

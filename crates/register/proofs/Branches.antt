@@ -97,7 +97,8 @@ list-marks b most k xs first second first' second' x tally visits which listed m
     let s = (rw (sub-zero (list_place k)) at sorted) in
     record { long = rw (← h) l; figures = rw (ev, ew, ← h); sorted = rw (← h) s }
 
-module _ (b : Box) (most : ℕ) (xs first second : List ℕ) (t v k : ℕ) (et : t ≡ main_count♯ xs b) (ev : v ≡ visits_in t) (ek : k ≡ found_in t) where
+module _ (b : Box) (most : ℕ) (xs first second : List ℕ) (t v k : ℕ) (et : t ≡ main_count♯ xs b) (ev : v ≡ visits_in t)
+    (ek : k ≡ found_in t) where
   visits-is : v ≡ visits_in (main_count♯ xs b)
   visits-is = ev ∙ ap visits_in et
 

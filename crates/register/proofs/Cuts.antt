@@ -29,7 +29,8 @@ module _ {before : Lent} (table : SoundTable (own before.table)) where
   -- THE PANES laid out over a box: a count of each, joined, gives the count of the box
   pub tiles-counts : (b : Box) (ps : List Box) → Tiles b ps → (of : Box → Answer) (after : Box → Lent)
       → ((p : Box) → Performs (count p) before (after p) (of p))
-      → ((of b).k ≡ total ◌+◌ (λ p. (of p).k) ps) × ((of b).sum ≡ total ◌+◌ (λ p. (of p).sum) ps) × ((of b).worst ≡ total max (λ p. (of p).worst) ps)
+      → ((of b).k ≡ total ◌+◌ (λ p. (of p).k) ps) × ((of b).sum ≡ total ◌+◌ (λ p. (of p).sum) ps)
+      × ((of b).worst ≡ total max (λ p. (of p).worst) ps)
   tiles-counts b ps t of after counts =
       let T = table.tree in
       rw (fun_ext (λ p. ((counts p).follows T table.holding).answers)) (tiles-answers b ps t (state_of before.table T))

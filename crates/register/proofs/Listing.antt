@@ -199,7 +199,8 @@ module _ (b : Box) (xs first second : List ℕ) where
     unfolding early enter_box
     no_row = rw (own-some xs table, fine)
 
-    short-answer : (n : ℕ) → (length first < list_place n) ⊎ (length second < list_place n) → (T : Main) → n ≡ length (filter_by (holds b) (marks_of T))
+    short-answer : (n : ℕ) → (length first < list_place n) ⊎ (length second < list_place n) → (T : Main)
+        → n ≡ length (filter_by (holds b) (marks_of T))
         → refusal 10 n ≡ answer call (state_of xs T)
     unfolding enter_box
     short-answer n (inl h) T e = rw (fine, ← e, lt-ltb (length first) (list_place n) h)

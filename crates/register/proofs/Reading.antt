@@ -86,7 +86,8 @@ module _ (b : Box) (xs : List ℕ) where
         → Performs (history.count b) (alone xs) (alone xs) (counted (found xs table b) (visits xs table b) (sum_by (own xs) b) (worst_by (own xs) b))
     unfolding enter_box
     counted-performs h =
-        performs-kept (history.count b) xs [] [] [] [] (counted (found xs table b) (visits xs table b) (sum_by (own xs) b) (worst_by (own xs) b)) (λ z. refl) tt
+        performs-kept (history.count b) xs [] [] [] [] (counted (found xs table b) (visits xs table b) (sum_by (own xs) b) (worst_by (own xs) b))
+            (λ z. refl) tt
         (λ z. absurd (z no_row)) (λ z. counts h)
         (no-lists (counted (found xs table b) (visits xs table b) (sum_by (own xs) b) (worst_by (own xs) b)) xs xs [] [] refl) (λ z. tt)
         (λ T h. (

@@ -1,5 +1,6 @@
 -- What the functions of src/ give, step by step, with the mirrors of the crates below. Assumes nothing.
-use Rattle.std.specs.Prelude.{ℕ, ◌+◌, ◌*◌, ◌%◌, ◌≤◌, ◌<◌, ◌≡◌, ◌⊎◌, List, ◌++◌, ltb, eqb, length, get_or, set, take, drop, if◌then◌else◌}
+use Rattle.std.specs.Prelude.{ℕ, ◌+◌, ◌*◌, ◌%◌, ◌≤◌, ◌<◌, ◌≡◌, ◌⊎◌, List}
+use Rattle.std.specs.Prelude.{◌++◌, ltb, eqb, length, get_or, set, take, drop, if◌then◌else◌}
 use Rattle.model.specs.Sheet.{Mark, Box, below_x}
 use Rattle.model.specs.Refusals.{Outcome, accepted, refused, open_table, enter_mark, name_mark, enter_box}
 use Rattle.model.specs.History.{Answer, refusal, updated, counted, which_list}
@@ -106,7 +107,8 @@ module _ (b : Box) (most : ℕ) where
     short : visits_in (main_count♯ xs b) ≤ most → found_in (main_count♯ xs b) ≤ get_or xs live_place 0
         → (length first < list_place (found_in (main_count♯ xs b))) ⊎ (length second < list_place (found_in (main_count♯ xs b)))
         → ListsOwn xs first second first second (list_refused 10 (found_in (main_count♯ xs b)))
-    lists : {first' second' : List ℕ} {f : ListFigures} → visits_in (main_count♯ xs b) ≤ most → found_in (main_count♯ xs b) ≤ get_or xs live_place 0
+    lists : {first' second' : List ℕ} {f : ListFigures} → visits_in (main_count♯ xs b) ≤ most
+        → found_in (main_count♯ xs b) ≤ get_or xs live_place 0
         → list_place (found_in (main_count♯ xs b)) ≤ length first → list_place (found_in (main_count♯ xs b)) ≤ length second
         → ListedOwn (found_in (main_count♯ xs b)) xs first second first' second' f → ListsOwn xs first second first' second' f
 

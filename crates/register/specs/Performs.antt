@@ -1,12 +1,14 @@
 -- What a call does, on any words whatever (document 01, "Where each call may stop"): the one definition that the contracts of all six calls cite, and of
 -- which a run is made (Run). Assumes nothing.
-use Rattle.std.specs.Prelude.{ℕ, ◌+◌, ◌≤◌, ◌<◌, ◌≡◌, ◌≢◌, ◌⊎◌, Bool, true, false, List, [], length, get_or, take, drop, if◌then◌else◌}
+use Rattle.std.specs.Prelude.{ℕ, ◌+◌, ◌≤◌, ◌<◌, ◌≡◌, ◌≢◌, ◌⊎◌, Bool}
+use Rattle.std.specs.Prelude.{true, false, List, [], length, get_or, take, drop, if◌then◌else◌}
 use Rattle.std.proofs.Math.Option.{none}
 use Rattle.model.specs.Sizes.{W}
 use Rattle.model.specs.Tree.{marks_of}
 use Rattle.model.specs.Sheet.{Mark, Box, Main}
 use Rattle.model.specs.Refusals.{Outcome, accepted, refused, open_table, enter_mark, name_mark, enter_box}
-use Rattle.model.specs.History.{Call, open_for, insert, strike, count, list, check, State, Answer, refusal, updated, counted, listed_in, which_list, answer, next}
+use Rattle.model.specs.History.{Call, open_for, insert, strike, count, list, check, State}
+use Rattle.model.specs.History.{Answer, refusal, updated, counted, listed_in, which_list, answer, next}
 use Rattle.table.specs.Layout.{arm_width, open_place, root_place, used_place, run_place, list_place}
 use Rattle.sizes.specs.Sizes.{visits_within}
 use Rattle.table.specs.Marks.{mark_words}
@@ -75,8 +77,8 @@ updates (list b first second) = false
 updates check = false
 
 -- What the search of a count comes to by the words: on a sound table the marks that the box holds, their grades' sum and worst and the written search's visits
--- (`Follows`); on any other figures without meaning, of which is known that `main_count♯`, the code step by step, gives them. Figures that no sound table with
--- this header can have, more marks than live or more visits than (4D + 1)(2D + 1) for D(C), are damage.
+-- (`Follows`); on any other figures without meaning, of which is known that `main_count♯`, the code step by step, gives them. Figures that no sound table
+-- with this header can have, more marks than live or more visits than (4D + 1)(2D + 1) for D(C), are damage.
 abbrev pub sum_by : List ℕ → Box → ℕ
 sum_by xs b = sum_of (grades_in (main_count♯ xs b))
 

@@ -125,9 +125,11 @@ module _ (f : ℕ → Mark) (b : Box) where
         laid r (held-right h) c.2 (all_right (marks l) (marks r) g) (all_right (marks l) (marks r) k) (sorted-right (marks l) (marks r) o),
       )
 
-      pub count-holds : Straight along_y b → (t : Tree ℕ (List ℕ)) → Held along_y f (record_place base) C xs t → CarriesBag t → Settled t → Graded t
+      pub count-holds : Straight along_y b → (t : Tree ℕ (List ℕ)) → Held along_y f (record_place base) C xs t → CarriesBag t → Settled t
+          → Graded t
           → Sorted (slot_axis f along_y) (marks t) → depth t ≤ 38 → (tally : ℕ)
           → count♯ xs C b base (arm_of along_y f t) tally ≡ added f (searched t) tally
       count-holds fine t h c g k s d =
-          count-adds auxiliary_kind along_y b f (innermost (slot_space f sheet)) ordered C xs (added f) (added-both f) (added-swap f) (added-arrive f) fine base t
+          count-adds auxiliary_kind along_y b f (innermost (slot_space f sheet)) ordered C xs (added f) (added-both f) (added-swap f) (added-arrive f)
+              fine base t
           (omega arith) (laid t h c g k s) s

@@ -12,7 +12,8 @@ use Rattle.nodes.specs.Arms.{child_at}
 use Rattle.nodes.specs.Weights.{unbalances}
 
 -- where the level's records are there, so is a child's arm
-pub child-there : (base name capacity len r : ℕ) (b : Bool) → r ≡ child_at (record_place base name) b → name < capacity → level_end base capacity ≤ len
+pub child-there : (base name capacity len r : ℕ) (b : Bool) → r ≡ child_at (record_place base name) b → name < capacity
+    → level_end base capacity ≤ len
     → r + arm_width ≤ len
 unfolding child_at
 child-there base name capacity len r true e h k = omega (arith, e, h, k)

@@ -1,6 +1,7 @@
 -- What the words say where 3 does not apply, that it does not apply where they say so, and the tests as the code makes them. Assumes nothing.
 use Rattle.std.specs.Prelude.{if◌then◌else◌}
-use Rattle.std.proofs.Common.{◌≡◌, ℕ, ◌+◌, ◌*◌, ◌≤◌, true, false, not, eqb, ltb, List, length, get_or, mul-le-mul_right, arith, ltb-false, le-ltb, eq-eqb, eqb-true}
+use Rattle.std.proofs.Common.{◌≡◌, ℕ, ◌+◌, ◌*◌, ◌≤◌, true, false, not, eqb}
+use Rattle.std.proofs.Common.{ltb, List, length, get_or, mul-le-mul_right, arith, ltb-false, le-ltb, eq-eqb, eqb-true}
 use borrow.Author.Tests.{not-false}
 use Rattle.model.specs.Sizes.{D, W, capacity_outside}
 use Rattle.model.proofs.Logic.{by_cases, or-neither}
@@ -18,7 +19,8 @@ W-least c h = omega (arith, mul-le-mul_right {m = 1} {n = c} (40 + 24 * D c) h)
 
 module _ (xs : List ℕ) where
   pub own-table : (own_words xs ≡ 0 → ⊥)
-      → (get_or xs open_place 0 ≡ 1) × (capacity_outside (capacity_of xs) ≡ false) × (live_of xs ≤ capacity_of xs) × (own_words xs ≡ W (capacity_of xs))
+      → (get_or xs open_place 0 ≡ 1) × (capacity_outside (capacity_of xs) ≡ false) × (live_of xs ≤ capacity_of xs)
+      × (own_words xs ≡ W (capacity_of xs))
       × (W (capacity_of xs) ≤ length xs)
   unfolding own_words not_table
   own-table h =
@@ -36,7 +38,8 @@ module _ (xs : List ℕ) where
         ltb-false (length xs) (W (capacity_of xs)) d.0,
       ))
 
-  pub table-own : get_or xs open_place 0 ≡ 1 → capacity_outside (capacity_of xs) ≡ false → live_of xs ≤ capacity_of xs → W (capacity_of xs) ≤ length xs
+  pub table-own : get_or xs open_place 0 ≡ 1 → capacity_outside (capacity_of xs) ≡ false → live_of xs ≤ capacity_of xs
+      → W (capacity_of xs) ≤ length xs
       → (own_words xs ≡ W (capacity_of xs)) × (1 ≤ W (capacity_of xs))
   unfolding own_words not_table
   table-own is_open within live long =

@@ -1,7 +1,8 @@
 -- The figure of grades and a count's tally, as the code makes them and as what they stand for: groups of marks joined in any order, each part read off.
 -- Assumes nothing.
 use Rattle.std.specs.Prelude.{if◌then◌else◌}
-use Rattle.std.proofs.Common.{◌≡◌, ℕ, ◌+◌, ◌-◌, ◌*◌, ◌/◌, ◌%◌, ◌^◌, ◌<◌, ◌≤◌, max, Bool, ltb, List, [], ◌∷◌, length, refl, ◌∙◌, arith, ltb-false, ltb-true}
+use Rattle.std.proofs.Common.{◌≡◌, ℕ, ◌+◌, ◌-◌, ◌*◌, ◌/◌, ◌%◌, ◌^◌, ◌<◌, ◌≤◌, max}
+use Rattle.std.proofs.Common.{Bool, ltb, List, [], ◌∷◌, length, refl, ◌∙◌, arith, ltb-false, ltb-true}
 use Rattle.model.specs.Totals.{total, total_if}
 use Rattle.model.specs.Laws.{OperationLaws, All, nil, cons}
 use Rattle.model.proofs.Logic.{by_cases}

@@ -87,7 +87,8 @@ module _ {C d at w : ℕ} {P Q : ℕ → Type 0}
   pub kept-mark : (s : ℕ) → s < C → slot_mark ys s ≡ slot_mark xs s
   kept-mark s h = unchanged-mark a s (marks-kept s h)
 
-  pub kept_record : (q : ℕ) → q < C → (P q → ⊥) → Apart at w (main_place q) record_width → record_at ys (main_place q) ≡ record_at xs (main_place q)
+  pub kept_record : (q : ℕ) → q < C → (P q → ⊥) → Apart at w (main_place q) record_width
+      → record_at ys (main_place q) ≡ record_at xs (main_place q)
   kept_record q h out off = unchanged-record a (main_place q) (node_kept q (main_place q) record_width h out (omega arith) (omega arith) off)
 
   pub kept-auxiliary : (q : ℕ) → q < C → (P q → ⊥) → Apart at w (auxiliary_place q) arm_width

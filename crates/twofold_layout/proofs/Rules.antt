@@ -189,7 +189,8 @@ module _ (f : ℕ → Mark) where
         (sorted-distinct slot_sameness slot_x-laws s) (auxiliaries-carried t a));
   }
 
-  pub build-rules : (d : ℕ) (l : List ℕ) → 0 < length l → Sorted (slot_axis f along_x) l → ByRules f (build (slot_axis f along_x) (slot_auxiliary f) d l)
+  pub build-rules : (d : ℕ) (l : List ℕ) → 0 < length l → Sorted (slot_axis f along_x) l
+      → ByRules f (build (slot_axis f along_x) (slot_auxiliary f) d l)
   build-rules d l n s = record {
     sorted = rw (build-marks X (slot_auxiliary f) d l n) s;
     balanced = build-balanced X (slot_auxiliary f) d l n;
@@ -239,7 +240,8 @@ module _ (f : ℕ → Mark) where
     new-slot z = omega (arith, times-pass (S.same s) s (slot_sameness.self s) (marks t))
 
     -- in a tree in order two slots with the same mark are the same slot
-    pub same-slot : Sorted (slot_axis f along_x) (marks t) → 0 < times s t → (q : ℕ) → 0 < times q t → (slot_space f sheet).same s q ≡ true → q ≡ s
+    pub same-slot : Sorted (slot_axis f along_x) (marks t) → 0 < times s t → (q : ℕ) → 0 < times q t
+        → (slot_space f sheet).same s q ≡ true → q ≡ s
     same-slot o h q k e =
         by_cases (eqb q s)
         (λ v. eqb-true q s v)

@@ -49,7 +49,8 @@ module _ (C : ℕ) (xs : List ℕ) where
   rooted = put_arm sized root_place no_arm
 
   sized-length : length sized ≡ length xs
-  sized-length = length-set (set listed capacity_place C) live_place 0 ∙ length-set listed capacity_place C ∙ (free_slots-unchanged C C xs (omega arith)).long
+  sized-length = length-set (set listed capacity_place C) live_place 0 ∙ length-set listed capacity_place C
+      ∙ (free_slots-unchanged C C xs (omega arith)).long
 
   rooted-length : length rooted ≡ length xs
   rooted-length = (put_arm-unchanged sized root_place no_arm).long ∙ sized-length
@@ -84,7 +85,8 @@ module _ (C : ℕ) (xs : List ℕ) where
         ∙ get_or-set_other listed capacity_place i C 0 (omega arith)
 
     -- it writes the header's words and the lists of slots, and nothing else
-    pub empty-other : (i : ℕ) → root_place + arm_width ≤ i → (i < used_place C 0) ⊎ (run_place C 0 ≤ i) → get_or (empty♯ C xs) i 0 ≡ get_or xs i 0
+    pub empty-other : (i : ℕ) → root_place + arm_width ≤ i → (i < used_place C 0) ⊎ (run_place C 0 ≤ i)
+        → get_or (empty♯ C xs) i 0 ≡ get_or xs i 0
     empty-other i l h =
         empty-past i (omega arith) ∙ (free_slots-unchanged C C xs (omega arith)).same i (off h)
       where

@@ -118,7 +118,8 @@ root-clear C = clear-spot {P = λ q. ⊥} root-spot
 
 -- the slots of the tree after an insertion
 insert-slots : (g : ℕ → Mark) (s : ℕ) (t : SlotMain) → ByRules g t → (q : ℕ)
-    → times q (rebalance (slot_axis g along_x) (slot_auxiliary g) (insert_leaf (slot_axis g along_x) (slot_auxiliary g) s t)) ≡ times q t + indicator (eqb q s)
+    → times q (rebalance (slot_axis g along_x) (slot_auxiliary g) (insert_leaf (slot_axis g along_x) (slot_auxiliary g) s t))
+    ≡ times q t + indicator (eqb q s)
 insert-slots g s t r q =
     let u = insert_leaf (slot_axis g along_x) (slot_auxiliary g) s t in
     let e = rebalance-marks (slot_axis g along_x) (slot_auxiliary g) u in

@@ -245,7 +245,8 @@ module _ (last s : ℕ) (zs : List ℕ) where
         ∙ get_or-set_other w2 (used_place C last) j s 0 (λ e. ne (omega arith)) ∙ get_or-set_other w1 (place_place C moved_slot) j vacated 0 (omega arith)
         ∙ get_or-set_same zs j moved_slot 0 (omega arith)
 
-    w5-place-other : (q : ℕ) → q < C → (q ≡ s → ⊥) → (q ≡ moved_slot → ⊥) → get_or w5 (place_place C q) 0 ≡ get_or zs (place_place C q) 0
+    w5-place-other : (q : ℕ) → q < C → (q ≡ s → ⊥) → (q ≡ moved_slot → ⊥)
+        → get_or w5 (place_place C q) 0 ≡ get_or zs (place_place C q) 0
     w5-place-other q h a b =
         w5-other (place_place C q) (omega arith) (λ e. a (omega arith)) (omega arith) (λ e. b (omega arith)) (omega arith)
 

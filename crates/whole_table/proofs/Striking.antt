@@ -69,7 +69,8 @@ module _ {xs ys : List ℕ} (a : TableFrame (capacity_of xs) xs ys) where
 
 -- the slots of the tree after a strike
 strike-slots : (f : ℕ → Mark) (s : ℕ) (i : SlotAuxiliary) (l r : SlotMain) → ByRules f (node i l r) → 0 < times s (node i l r) → (q : ℕ)
-    → times q (rebalance (slot_axis f along_x) (slot_auxiliary f) (struck_node along_x f s (slot_auxiliary f) i l r)) + indicator (eqb q s) ≡ times q (node i l r)
+    → times q (rebalance (slot_axis f along_x) (slot_auxiliary f) (struck_node along_x f s (slot_auxiliary f) i l r)) + indicator (eqb q s)
+    ≡ times q (node i l r)
 strike-slots f s i l r b n q =
     let u = struck_node along_x f s (slot_auxiliary f) i l r in
     let w = strike-leads along_x f s sheet-sameness along_x-laws (node i l r) b.sorted n in

@@ -1,5 +1,4 @@
--- `answer` meets its contract. The loop keeps: the bytes before `at` have been fed, and every lent run keeps its length. What falls: the bytes left.
--- Assumes nothing.
+-- `answer` meets its contract. Assumes nothing.
 use mathlib.Core.Path.{refl}
 use native.Mathlib.Omega.{arith}
 use lib.Seq.{take_all}

@@ -1,4 +1,3 @@
--- The loop keeps: left ≤ capacity; inverse♯ of left is that of capacity. What falls: left.
 use native.Mathlib.Omega.{arith}
 use Rattle.table.proofs.Fuel.{positive, nothing}
 use Rattle.checking.specs.Slots.{inverse♯-zero, inverse♯-suc}

@@ -1,5 +1,4 @@
--- `feed_some` meets its contract. The loop keeps: the bytes before `used` are fed, their text is the first `bytes` of `out`, and every lent run keeps its
--- length. What falls: the bytes left. Assumes nothing.
+-- `feed_some` meets its contract. Assumes nothing.
 use mathlib.Core.Path.{refl}
 use native.Mathlib.Omega.{arith}
 use borrow.Author.Rules.{rules}

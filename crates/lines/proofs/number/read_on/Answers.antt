@@ -1,5 +1,4 @@
--- `read_on` meets its contract. The loop keeps: what is left to read goes on from the value read so far, which fits a word. What falls: the bytes left.
--- Assumes nothing.
+-- `read_on` meets its contract. Assumes nothing.
 use mathlib.Core.Path.{refl, sym, ◌∙◌}
 use native.Mathlib.Omega.{arith}
 use Rattle.lines.proofs.Places.{read_on-low, read_on-high, read_on-large, read_on-digit, read_on-end}

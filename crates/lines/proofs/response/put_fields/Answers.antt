@@ -1,4 +1,4 @@
--- `put_fields` meets its contract. The loop keeps: the first i numbers are written, at most 11 bytes each. What falls: what is left of them. Assumes nothing.
+-- `put_fields` meets its contract. Assumes nothing.
 use mathlib.Core.Path.{refl, ◌∙◌}
 use native.Mathlib.Omega.{arith}
 use lib.Seq.{take_all}

@@ -7,7 +7,8 @@ use Rattle.lines.specs.Writing.{Wrote}
 use Rattle.lines.proofs.response.put_fields.Given as goal
 
 abbrev pub invariant-loop-i : goal.invariant-loop-i
-invariant-loop-i l = (l.i ≤ length l.numbers) × (l.next ≤ l.at + 11 * l.i) × (length l.out ≡ length l.initial.out) × Wrote l.initial.out l.at (fields (take l.i l.numbers)) l.next l.out
+invariant-loop-i l = (l.i ≤ length l.numbers) × (l.next ≤ l.at + 11 * l.i) × (length l.out ≡ length l.initial.out)
+    × Wrote l.initial.out l.at (fields (take l.i l.numbers)) l.next l.out
 
 abbrev pub decreases-loop-i : goal.decreases-loop-i
 decreases-loop-i l = length l.numbers - l.i

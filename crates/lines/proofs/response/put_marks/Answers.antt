@@ -1,4 +1,4 @@
--- `put_marks` meets its contract. The loop keeps: the lines of the first i marks are written, at most 44 bytes each. What falls: k - i. Assumes nothing.
+-- `put_marks` meets its contract. Assumes nothing.
 use mathlib.Core.Path.{◌≡◌, refl, ◌∙◌}
 use native.Mathlib.Omega.{arith}
 use Rattle.lines.proofs.Responses.{mark_lines-more}

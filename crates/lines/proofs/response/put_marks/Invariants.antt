@@ -8,7 +8,8 @@ use Rattle.lines.specs.Writing.{Wrote}
 use Rattle.lines.proofs.response.put_marks.Given as goal
 
 abbrev pub invariant-loop-i : goal.invariant-loop-i
-invariant-loop-i l = (l.i ≤ l.k) × (l.next ≤ l.at + 44 * l.i) × (length l.out ≡ length l.initial.out) × Wrote l.initial.out l.at (mark_lines (list_marks l.list 0 l.i)) l.next l.out
+invariant-loop-i l = (l.i ≤ l.k) × (l.next ≤ l.at + 44 * l.i) × (length l.out ≡ length l.initial.out)
+    × Wrote l.initial.out l.at (mark_lines (list_marks l.list 0 l.i)) l.next l.out
 
 abbrev pub decreases-loop-i : goal.decreases-loop-i
 decreases-loop-i l = l.k - l.i

@@ -1,5 +1,3 @@
--- The loop keeps: length of t is that of t₀; left ≤ fuel; collect♯ of left, rest, at, got, t is that of fuel, rest₀, at₀, got₀, t₀.
--- What falls: left.
 use Rattle.table.proofs.Fuel.{positive, nothing}
 use Rattle.nodes.specs.Collect.{collect_parts, collect_both, collect_inner, collect_at, collect♯-zero, collect♯-suc}
 use Rattle.nodes.proofs.Turns.{strided-there, collect_right, collect-left-leaf, collect-spent}

@@ -1,5 +1,3 @@
--- The loop keeps: as many words; the arm at the word `at` is there; the insertion that is left, from `at` and its level on with `left` levels, is the whole
--- one. What falls: left.
 use native.Mathlib.Omega.{arith}
 use borrow.Author.Tests.{eq-eqb, ne_eqb, le-leb, lt-leb}
 use Rattle.primary_insert.specs.Insert.{insert_beneath♯-suc, insert_beneath♯-zero}

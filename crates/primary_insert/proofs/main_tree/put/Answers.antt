@@ -1,5 +1,3 @@
--- The loop keeps: as many words; the arm at the word `at` is there; the insertion that is left, from `at` on with `left` levels, is the whole one. What falls:
--- left.
 use native.Mathlib.Omega.{arith}
 use Rattle.secondary_update.specs.Insert.{insert_arm, insert_child, insert_node, insert_way, insert♯-suc, insert♯-zero}
 use Rattle.nodes.specs.Weights.{unbalances}

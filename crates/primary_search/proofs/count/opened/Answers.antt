@@ -1,4 +1,3 @@
--- The loop keeps: left ≤ deepest; open_from of left, base, node.0, tally.0 is that of deepest, level, node₀.0, (tally₀.0). What falls: left.
 use native.Mathlib.Omega.{arith}
 use borrow.Author.Rules.{rules}
 use Rattle.nodes.specs.Count.{open_record, open_node, open_from-zero, open_from-suc}

@@ -1,4 +1,3 @@
--- The loop keeps: left ≤ deepest; find_beneath♯ of left, node.0 is that of deepest, (node₀.0). What falls: left.
 use Rattle.table.proofs.Fuel.{positive, nothing}
 use native.Mathlib.Omega.{arith}
 use borrow.Author.Rules.{rules}

@@ -1,4 +1,3 @@
--- The loop keeps: left ≤ deepest; low_from of left, node, tally is that of deepest, node₀, tally₀. What falls: left.
 use native.Mathlib.Omega.{arith}
 use Rattle.nodes.specs.Count.{low_record, low_node, low_from-zero, low_from-suc}
 use Rattle.table.proofs.Fuel.{positive, nothing}

@@ -1,4 +1,3 @@
--- The loop keeps: left ≤ deepest; open_from of left, node, tally is that of deepest, node₀, tally₀. What falls: left.
 use native.Mathlib.Omega.{arith}
 use Rattle.nodes.specs.Count.{open_record, open_node, open_from-zero, open_from-suc}
 use Rattle.table.proofs.Fuel.{positive, nothing}

@@ -1,4 +1,3 @@
--- The loop keeps: left ≤ deepest; high_from of left, node, tally is that of deepest, node₀, tally₀. What falls: left.
 use native.Mathlib.Omega.{arith}
 use Rattle.nodes.specs.Count.{high_record, high_node, high_from-zero, high_from-suc}
 use Rattle.table.proofs.Fuel.{positive, nothing}

@@ -1,5 +1,3 @@
--- The loop keeps: as many words; the arms at the words `at` and `top` are there; the insertion that is left, from `at` on with `left` levels, and then what is
--- to be built afresh at `top`, is the whole one. What falls: left.
 use Rattle.secondary_update.specs.Insert.{insert_afresh, insert_arm, insert_node, insert_child, insert_way, insert♯-zero, insert♯-suc}
 use mathlib.Core.Path.{sym, ◌∙◌}
 use borrow.Author.Rules.{rules}

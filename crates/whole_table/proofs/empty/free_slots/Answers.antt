@@ -1,4 +1,4 @@
--- `free_slots` meets its contract. The loop keeps: the length, left ≤ capacity, and free_slots♯ of left on t is that of capacity on t₀. What falls: left.
+-- `free_slots` meets its contract.
 use native.Mathlib.Omega.{arith}
 use Rattle.table.proofs.Fuel.{positive, nothing}
 use Rattle.whole_table.specs.Empty.{own_place, free_slots♯-zero, free_slots♯-suc}

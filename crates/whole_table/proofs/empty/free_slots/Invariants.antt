@@ -6,7 +6,8 @@ use Rattle.whole_table.specs.Empty.{free_slots♯}
 use Rattle.whole_table.proofs.empty.free_slots.Given as goal
 
 abbrev pub invariant-loop-left : goal.invariant-loop-left
-invariant-loop-left l = (length l.t ≡ length l.initial.t) × (l.left ≤ l.capacity) × (free_slots♯ l.left l.capacity l.t ≡ free_slots♯ l.capacity l.capacity l.initial.t)
+invariant-loop-left l = (length l.t ≡ length l.initial.t) × (l.left ≤ l.capacity)
+    × (free_slots♯ l.left l.capacity l.t ≡ free_slots♯ l.capacity l.capacity l.initial.t)
 
 abbrev pub decreases-loop-left : goal.decreases-loop-left
 decreases-loop-left l = l.left
