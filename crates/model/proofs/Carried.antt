@@ -18,7 +18,7 @@ use Rattle.model.proofs.Tree.{build-induction, rebalance-marks, insert-marks, st
 
 module _
     {M B I : Type 0} (S : Space M B) (E : SamenessLaws S) (A : Axis M B) (O : AxisLaws S A) (R : Register M B I) (settled : B → M → Bool)
-        (bound : ℕ → ℕ)
+    (bound : ℕ → ℕ)
     (L : RegisterLaws S R settled bound) where
   abbrev pub Carried : Tree M I → Type 0
   Carried (leaf m) = Unit {0}

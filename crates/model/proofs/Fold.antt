@@ -100,7 +100,7 @@ BalancedOf (some t) = Balanced t
 
 module _
     {M B I : Type 0} (S : Space M B) (E : SamenessLaws S) (A : Axis M B) (O : AxisLaws S A) (R : Register M B I) (settled : B → M → Bool)
-        (bound : ℕ → ℕ)
+    (bound : ℕ → ℕ)
     (L : RegisterLaws S R (settled_with A settled) bound) where
   abbrev Car : Tree M I → Type 0
   Car = Carried S E A O R (settled_with A settled) bound L

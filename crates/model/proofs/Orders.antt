@@ -99,7 +99,7 @@ equal_on-laws ks holds = record {
 module _ {M B : Type 0} (S : Space M B) (k : M → ℕ) (ks : List (M → ℕ)) (lo hi : B → ℕ → Bool)
     (to : (a b : M) → S.same a b ≡ true → Agree (k ∷ ks) a b) (fro : (a b : M) → Agree (k ∷ ks) a b → S.same a b ≡ true)
     (lo-rises : (b : B) (v w : ℕ) → v ≤ w → lo b v ≡ true → lo b w ≡ true)
-        (hi-falls : (b : B) (v w : ℕ) → v ≤ w → hi b w ≡ true → hi b v ≡ true)
+    (hi-falls : (b : B) (v w : ℕ) → v ≤ w → hi b w ≡ true → hi b v ≡ true)
     (held : (b : B) (m : M) → S.holds b m ≡ true → (lo b (k m) && hi b (k m)) ≡ true) where
   pub lexicographic-laws : AxisLaws S (record { below = lexicographic (k ∷ ks); at = k; from_low = lo; to_high = hi })
   lexicographic-laws = record {

@@ -97,7 +97,7 @@ pub three-fold-laws : RegisterLaws laminate three unsettled (fold_bound (fold_bo
 three-fold-laws =
     fold-laws laminate laminate-sameness along_z along_z-laws two unsettled (fold_bound (fold_bound (λ n. 0)))
     (fold-laws laminate laminate-sameness along_x along_x-laws (fold laminate along_y (innermost laminate)) (settled_with along_z unsettled)
-        (fold_bound (λ n. 0))
+    (fold_bound (λ n. 0))
     (fold-laws laminate laminate-sameness along_y along_y-laws (innermost laminate) (settled_with along_x (settled_with along_z unsettled)) (λ n. 0)
     (innermost-laws laminate (settled_with along_y (settled_with along_x (settled_with along_z unsettled))) (λ b m e. e))))
 

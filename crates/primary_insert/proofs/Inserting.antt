@@ -213,7 +213,7 @@ module _ (f : ℕ → Mark) (C s : ℕ) (small : C ≤ 65536) (in_c : s < C) whe
     abbrev Onward : Bool → After ℕ
     Onward left =
         main_insert_child rec C (f s) s (level_place C d) (least r) (way_of (arms (arm_of along_x f l) (arm_of along_x f r)) left) at
-            (arm_of along_x f (node i l r)) xs
+        (arm_of along_x f (node i l r)) xs
 
     insert_beneath-node : main_insert_node rec C (f s) s (level_place C d) at xs ≡ Onward (below_x (f s) (f (least r)))
     unfolding main_insert_node main_insert_arm main_insert_way way_at
@@ -266,7 +266,7 @@ module _ (f : ℕ → Mark) (C s : ℕ) (small : C ≤ 65536) (in_c : s < C) whe
 
   insert_beneath-leaf : {d at : ℕ} {xs : List ℕ} (q : ℕ) (rec : MainInsertion) → TwoReady f C s d at xs (leaf q)
       → main_insert_node rec C (f s) s (level_place C d) at xs ≡ main_leaf♯ C (f s) s (level_place C d) at
-          (arm_of {I = SlotAuxiliary} along_x f (leaf q)) xs
+      (arm_of {I = SlotAuxiliary} along_x f (leaf q)) xs
   unfolding main_insert_node main_insert_arm
   insert_beneath-leaf q rec k =
       let even : 2 * q % 2 ≡ 0 = omega arith in

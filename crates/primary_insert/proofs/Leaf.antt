@@ -128,7 +128,7 @@ module _ {f : ℕ → Mark} {C s : ℕ} (small : C ≤ 65536) (in_c : s < C) whe
 
   split-words : {d at : ℕ} {xs : List ℕ} (q : ℕ) → TwoReady f C s d at xs (leaf q)
       → (insert♯ along_x 1 C main_place (f s) s false at xs).words ≡ split♯ along_x main_place (f s) s at
-          (arm_of {I = SlotAuxiliary} along_x f (leaf q)) xs
+      (arm_of {I = SlotAuxiliary} along_x f (leaf q)) xs
   unfolding insert♯ insert_node insert_arm
   split-words q k =
       let even : 2 * q % 2 ≡ 0 = omega arith in
@@ -141,7 +141,7 @@ module _ {f : ℕ → Mark} {C s : ℕ} (small : C ≤ 65536) (in_c : s < C) whe
   leaf-grown {d = d} {at = at} {xs = xs} q k low =
       let half : 2 * q / 2 ≡ q = omega arith in
       let h : LeavesAt along_x f main_place C at xs (split♯ along_x main_place (f s) s at (arm_of {I = SlotAuxiliary} along_x f (leaf q)) xs)
-          (grow f s (leaf q)) =
+      (grow f s (leaf q)) =
       rw (← split-words q k) (main-grows small in_c k 1 (omega arith) (omega arith)).0 in
       rw (half, k.held.main.marked q (times-least {I = SlotAuxiliary} (leaf q)))
       (by_cases (below_x (f s) (f q))

@@ -125,7 +125,7 @@ module _ {f : ℕ → Mark} {C d at : ℕ} (i : SlotAuxiliary) (l r : SlotMain) 
       let in_p : ((s : ℕ) → Names l s → s < C) = λ s k. within s k.0 in
       let out : (Names l name → ⊥) = λ k. omega (arith, k.0, apart name, times-least r) in
       let clear : Clear C (main_place name) arm_width = clear-spot (child-spot {P = Names l} name (main_place name) in_c in_p out (omega arith)
-          (omega arith)) in
+      (omega arith)) in
       let right = child-spot {P = Names l} name (main_place name + arm_width) in_c in_p out (omega arith) (omega arith) in
       two-way l (main_place name) (names-left i l r) (λ s k. omega (arith, times-node s i l r)) out (omega arith) (omega arith) in_c within h.frame h.held
       (kept-two in_p clear h.frame (suc d) r within (λ s k. inl (omega (arith, k.0, apart s))) (λ s k. omega (arith, apart s)) of

@@ -131,7 +131,7 @@ module _ (f : ℕ → Mark) (b : Box) where
 
       list_inside : inside (slot_axis f along_x) b (node i l r) ≡ true
           → Writes (list_beneath♯ (suc n) xs C b most (level_place C d) (arm_of along_x f (node i l r))) (met_carried i)
-              (((slot_auxiliary f).list b i).visits + 1)
+          (((slot_auxiliary f).list b i).visits + 1)
       unfolding list_inner list_over♯
       list_inside t =
           let a = h.auxiliary in

@@ -186,7 +186,7 @@ module _ (f : ℕ → Mark) (C : ℕ) (small : C ≤ 65536) where
       → Lifts d (lift♯ (suc k) C (level_place C (suc d)) (level_place C d)) (node i l r)
   node-lift k d i l r of w deep a b xs ln h =
       rw (lift-node k d i l r xs h ln deep) (lift-step (lift♯ k C (level_place C (suc (suc d))) (level_place C (suc d))) d i l r xs ln h of w
-          (omega arith) a b)
+      (omega arith) a b)
 
   lift-lifts : (fuel : ℕ) (u : SlotMain) (d : ℕ) → AuxiliariesOf f u → weight u ≤ 3 → depth u ≤ fuel → suc d + depth u ≤ D C
       → Lifts d (lift♯ fuel C (level_place C (suc d)) (level_place C d)) u

@@ -99,7 +99,7 @@ state-own xs T = ap (λ c. record { capacity = c; plain = marks_of T; tree = T }
 module _ (c : Call) (m : Mark) (entering : Outcome Mark) (xs : List ℕ) (lengths : LengthsOf c (alone xs)) (updating : updates c ≡ true)
     (reaches : reach c xs ≡ W (capacity_of xs))
     (opens : opens_table c ≡ false) (not_one : not_table xs ≡ true → early c xs ≡ 3)
-        (one : not_table xs ≡ false → early c xs ≡ number_of entering)
+    (one : not_table xs ≡ false → early c xs ≡ number_of entering)
     (says : (s : State) (n : ℕ) → entering ≡ refused n → refusal n 0 ≡ answer c s) (starts : (ys : List ℕ) → Starts c xs ys) where
   abbrev beyond : List ℕ
   beyond = drop (W (capacity_of xs)) xs

@@ -87,7 +87,7 @@ module _ (b : Box) (xs : List ℕ) where
     unfolding enter_box
     counted-performs h =
         performs-kept (history.count b) xs [] [] [] [] (counted (found xs table b) (visits xs table b) (sum_by (own xs) b) (worst_by (own xs) b))
-            (λ z. refl) tt
+        (λ z. refl) tt
         (λ z. absurd (z no_row)) (λ z. counts h)
         (no-lists (counted (found xs table b) (visits xs table b) (sum_by (own xs) b) (worst_by (own xs) b)) xs xs [] [] refl) (λ z. tt)
         (λ T h. (

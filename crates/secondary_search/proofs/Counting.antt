@@ -131,5 +131,5 @@ module _ (f : ℕ → Mark) (b : Box) where
           → count♯ xs C b base (arm_of along_y f t) tally ≡ added f (searched t) tally
       count-holds fine t h c g k s d =
           count-adds auxiliary_kind along_y b f (innermost (slot_space f sheet)) ordered C xs (added f) (added-both f) (added-swap f) (added-arrive f)
-              fine base t
+          fine base t
           (omega arith) (laid t h c g k s) s

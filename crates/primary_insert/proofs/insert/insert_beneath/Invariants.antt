@@ -12,7 +12,7 @@ abbrev pub invariant-loop-left : goal.invariant-loop-left
 invariant-loop-left l =
     (length l.t ≡ length l.initial.t) × (l.at < 2 ^ 40) × (l.at + arm_width ≤ length l.initial.t)
     × (insert_beneath♯ l.left l.capacity (mark_value l.m) l.s l.base l.at l.t
-        ≡ insert_beneath♯ l.fuel l.capacity (mark_value l.m) l.s l.initial.base l.initial.at l.initial.t)
+    ≡ insert_beneath♯ l.fuel l.capacity (mark_value l.m) l.s l.initial.base l.initial.at l.initial.t)
 
 abbrev pub decreases-loop-left : goal.decreases-loop-left
 decreases-loop-left l = l.left

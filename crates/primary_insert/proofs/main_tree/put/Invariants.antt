@@ -15,7 +15,7 @@ abbrev pub invariant-loop-left : goal.invariant-loop-left
 invariant-loop-left l =
     (length l.t ≡ length l.initial.t) × (l.at < 2 ^ 40) × (l.at + arm_width ≤ length l.initial.t)
     × (insert♯ along_x l.left l.capacity main_place (mark_value l.m) l.s false l.at l.t
-        ≡ insert♯ along_x deepest l.capacity main_place (mark_value l.m) l.s false l.initial.at l.initial.t)
+    ≡ insert♯ along_x deepest l.capacity main_place (mark_value l.m) l.s false l.initial.at l.initial.t)
 
 abbrev pub decreases-loop-left : goal.decreases-loop-left
 decreases-loop-left l = l.left
