@@ -15,7 +15,8 @@ A round is an edit with several faults. Each is
 with as many pairs of old and new as it needs. Its place, the `at:` line (rt passes over it), is a file of proofs/ that must be refused by an error of its
 own: the answers of the function that the fault is in, or the law that a changed definition breaks. Behind the file may stand the name of the goal or law that
 must be refused, as `at: proofs/FUNCTION/Answers.antt returns-then-x`: so two faults of one function stand in one round. Otherwise no two faults of a round
-share a place. A function that is proved without a file has its place in the file that rt asks for when it is not.
+share a place. A function that is proved without a file has its place in the file that rt asks for when it is not; a goal that no answer is for has its place in
+the function's answers.
 
 An edit without any `at:` line is one fault, and an error of its own in any file will do.
 
@@ -45,6 +46,8 @@ NOT_ITS_OWN = ('was not admitted', 'was rejected', 'can be named from here', 'ha
 REFUSED = re.compile(r'^logic=not-proved', re.M)
 ERROR = re.compile(r'^(?:\./)?(\S+):\d+:\d+: error: (?:`([^`]*)`: )?(.*)$', re.M)
 WITHOUT_FILE = re.compile(r'^fn \S+: no proof: expected answers in (?:\./)?(\S+); `search` did not prove (.*)$', re.M)
+OPEN = re.compile(r'^note: \S+:\d+:\d+: it is not proved that .* \(`([^`]*)`\)', re.M)
+OF_FUNCTION = re.compile(r'^fn (\S+): not proved', re.M)
 ROOM = pathlib.Path(tempfile.mkdtemp(prefix="rounds-"))
 
 Fault = collections.namedtuple('Fault', 'says place pairs')  # pairs of (file, old, new)
@@ -79,6 +82,16 @@ def refused_places(log):
     own = [(file, goal) for file, goal, what in ERROR.findall(log) if not any(words in what for words in NOT_ITS_OWN)]
     for file, goals in WITHOUT_FILE.findall(log):
         own.extend((file, goal) for goal in re.findall(r'`([^`]*)`', goals))
+    open_goals = []
+    for line in log.splitlines():  # a function's goals that no answer is for, and that the tactics leave open, stand before its own line
+        goal, function = OPEN.match(line), OF_FUNCTION.match(line)
+        if goal:
+            open_goals.append(goal.group(1))
+        elif function:
+            *way, name = function.group(1).split('::')[1:]
+            own.extend(('/'.join(['proofs', *way, begin + name, 'Answers.antt']), goal) for begin in ('', '+') for goal in open_goals)
+        if line.startswith('fn '):
+            open_goals = []
     for file, goal in own:
         places.update((file, file + ' ' + goal))
     return places

@@ -1,8 +1,9 @@
 -- The auxiliary trees of a main tree that the walk passes are those of the rules: each has just the slots beneath its node. Assumes nothing.
-use Rattle.std.specs.Prelude.{if◌then◌else◌}
+use Rattle.std.specs.Prelude.{is_some}
+use Rattle.std.proofs.lemmas.Bool.{not-true}
 use Prim.Native.Nat.{ℕ, suc, ◌+◌, ◌≤◌, ◌<◌}
 use mathlib.Core.Path.{◌≡◌, refl, sym, ap, subst, ◌∙◌}
-use mathlib.Core.Bool.{true, false}
+use mathlib.Core.Bool.{true, false, not}
 use mathlib.Core.List.{List, ◌++◌}
 use mathlib.Core.Option.{some}
 use native.Mathlib.Omega.{arith}
@@ -14,7 +15,7 @@ use Rattle.model.specs.Sheet.{below_x, along_x, along_y}
 use Rattle.model.specs.Tree.{Tree, leaf, node, weight, depth, marks, least, greatest}
 use Rattle.model.specs.Slots.{slot_axis}
 use Rattle.model.specs.Laws.{SameBag, All, Sorted}
-use Rattle.model.proofs.Logic.{by_cases, clash, not-true-false, both-pass, fails-passes}
+use Rattle.model.proofs.Logic.{by_cases, clash, not-true-false}
 use Rattle.model.proofs.Sorted.{sorted-left, sorted-right, sorted-across}
 use Rattle.model.proofs.Orders.{along_x-laws, along_y-laws}
 use Rattle.model.proofs.Tree.{weight-marks, all-least, all-greatest}
@@ -31,6 +32,7 @@ use Rattle.twofold_layout.proofs.Over.{deeper-level}
 use Rattle.checking.specs.Slots.{live_slot♯}
 use Rattle.checking.specs.Span.{any_node}
 use Rattle.checking.specs.Trees.{auxiliary_slot♯, auxiliary_span♯, auxiliary_stands♯}
+use Rattle.checking.proofs.Comparing.{three_parts}
 use Rattle.checking.proofs.Walked.{Tested, Carried, read_tree}
 use Rattle.checking.proofs.Reading.{Reads, walk-reads}
 use Rattle.nodes.proofs.Counting.{sub-bag}
@@ -54,17 +56,14 @@ module _ (C live : ℕ) (xs : List ℕ) where
   pub auxiliary-slot : (first last s : ℕ) → auxiliary_slot♯ C live first last xs s ≡ true
       → (live_slot♯ C live xs s ≡ true) × (below_x (slot_mark xs s) (slot_mark xs first) ≡ false)
       × (below_x (slot_mark xs last) (slot_mark xs s) ≡ false)
-  unfolding auxiliary_slot♯
   auxiliary-slot first last s e =
       let low = below_x (slot_mark xs s) (slot_mark xs first) in
       let high = below_x (slot_mark xs last) (slot_mark xs s) in
-      let a = both-pass (live_slot♯ C live xs s) (if low then false else (if high then false else true)) e in
-      let b = fails-passes low (if high then false else true) a.1 in
-      (a.0, b.0, (fails-passes high true b.1).0)
+      let p = three_parts (live_slot♯ C live xs s) (not low) (not high) e in
+      (p.0, not-true low p.1, not-true high p.2)
 
   pub slot-auxiliary : (first last s : ℕ) → live_slot♯ C live xs s ≡ true → below_x (slot_mark xs s) (slot_mark xs first) ≡ false
       → below_x (slot_mark xs last) (slot_mark xs s) ≡ false → auxiliary_slot♯ C live first last xs s ≡ true
-  unfolding auxiliary_slot♯
   slot-auxiliary first last s a b c = rw (a, b, c)
 
   -- all live slots whose marks are from that of the tree's least slot to that of its greatest stand in the tree
@@ -102,19 +101,16 @@ module _ (C live : ℕ) (xs : List ℕ) where
   module _ (base name : ℕ) (i : SlotAuxiliary) (l r : SlotMain) (c : Covers (node i l r))
       (e : auxiliary_stands♯ C live xs base name (weight l + weight r) (least l) (greatest r) ≡ true) where
     stands-pass : ((arm_at xs (auxiliary_place name)).weight ≡ weight l + weight r)
-        × ((auxiliary_span♯ deepest base C live (least l) (greatest r) (arm_at xs (auxiliary_place name)) xs).sound ≡ true)
-    unfolding auxiliary_stands♯
+        × (is_some (auxiliary_span♯ deepest base C live (least l) (greatest r) (arm_at xs (auxiliary_place name)) xs) ≡ true)
     stands-pass =
         let a = arm_at xs (auxiliary_place name) in
         let w = weight l + weight r in
-        let walk = (auxiliary_span♯ deepest base C live (least l) (greatest r) a xs).sound in
-        let there = fails-passes (ltb (length xs) (level_end base C)) (if eqb a.weight w then walk else false) e in
-        let b = both-pass (eqb a.weight w) walk there.1 in
-        (eqb-true a.weight w b.0, b.1)
+        let walk = is_some (auxiliary_span♯ deepest base C live (least l) (greatest r) a xs) in
+        let p = three_parts (not (ltb (length xs) (level_end base C))) (eqb a.weight w) walk e in
+        (eqb-true a.weight w p.1, p.2)
 
     stands-reads : Reads along_y along_y-laws C (record_place base) (auxiliary_slot♯ C live (least l) (greatest r) xs) (λ b. b) (λ b name w. any_node) xs
         (beneath xs) deepest base (arm_at xs (auxiliary_place name)) (auxiliary_tree xs base name)
-    unfolding auxiliary_span♯
     stands-reads =
         walk-reads along_y along_y-laws C (record_place base) (auxiliary_slot♯ C live (least l) (greatest r) xs) (λ b. b) (λ b name w. any_node) xs
         (beneath xs) deepest base (arm_at xs (auxiliary_place name)) stands-pass.1

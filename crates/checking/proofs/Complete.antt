@@ -1,8 +1,8 @@
 -- A sound table passes the check: what the walks ask of a tree holds of the trees that the words hold. Assumes nothing.
-use Rattle.std.specs.Prelude.{if◌then◌else◌}
+use Rattle.std.specs.Prelude.{is_some}
 use Prim.Native.Nat.{ℕ, suc, ◌+◌, ◌-◌, ◌≤◌, ◌<◌}
 use mathlib.Core.Path.{◌≡◌, refl, sym, ap, subst, ◌∙◌}
-use mathlib.Core.Bool.{Bool, true, false}
+use mathlib.Core.Bool.{Bool, true, false, ◌&&◌}
 use mathlib.Core.List.{List, ◌++◌}
 use mathlib.Core.Option.{Option, none, some, some-injective}
 use native.Mathlib.Omega.{arith}
@@ -14,7 +14,7 @@ use Rattle.model.specs.Tree.{Tree, leaf, node, weight, depth, marks, marks_of, l
 use Rattle.model.specs.Sheet.{Mark, Main, mark_outside, grade_outside, along_x, along_y, sheet}
 use Rattle.model.specs.Slots.{slot_axis, slot_space}
 use Rattle.model.specs.Laws.{SameBag, All, Sorted}
-use Rattle.model.proofs.Logic.{by_cases, both-pass}
+use Rattle.model.proofs.Logic.{by_cases}
 use Rattle.model.proofs.Lists.{all_left, all_right, all_map, all_both, all_alike, same_bag-length, all-unmapped}
 use Rattle.model.proofs.Orders.{along_x-laws, along_y-laws}
 use Rattle.model.proofs.Sizes.{capacity-small}
@@ -39,6 +39,7 @@ use Rattle.checking.specs.Slots.{live_slot♯}
 use Rattle.checking.specs.Span.{any_node}
 use Rattle.checking.specs.Trees.{auxiliary_slot♯, auxiliary_span♯, auxiliary_stands♯, main_slot♯, main_span♯}
 use Rattle.checking.specs.Check.{root_stands, sound_tree♯}
+use Rattle.checking.proofs.Comparing.{three_parts}
 use Rattle.checking.proofs.Walked.{Tested}
 use Rattle.checking.proofs.Reading.{walk-passes}
 use Rattle.checking.proofs.LiveSlots.{inverse-complete, live-slot, slot-live}
@@ -68,8 +69,8 @@ module _ (xs : List ℕ) where
   Entered l = All (λ s. (mark_outside (f s) ≡ false) × (grade_outside (f s) ≡ false)) l
 
   -- a live slot is one of the table, whatever else is asked of it
-  live_below : (s : ℕ) (rest : Bool) → (if live_slot♯ C n xs s then rest else false) ≡ true → s < C
-  live_below s rest e = (live-slot C xs n s (both-pass (live_slot♯ C n xs s) rest e).0).0
+  live_below : (s : ℕ) (b c : Bool) → (live_slot♯ C n xs s && b && c) ≡ true → s < C
+  live_below s b c e = (live-slot C xs n s (three_parts (live_slot♯ C n xs s) b c e).0).0
 
   -- the slots of a main node pass the test of its auxiliary tree's slots
   auxiliary-slots : (t : SlotMain) → Sorted (slot_axis f along_x) (marks t) → Live (marks t)
@@ -83,12 +84,11 @@ module _ (xs : List ℕ) where
     -- the walk through an auxiliary tree of depth d
     auxiliary-walk : (d first last : ℕ) (u : Tree ℕ (List ℕ)) → Sorted (slot_axis f along_y) (marks u) → Balanced u
         → All (λ s. auxiliary_slot♯ C n first last xs s ≡ true) (marks u) → Held along_y f (record_place (level_place C d)) C xs u
-        → (auxiliary_span♯ deepest (level_place C d) C n first last (arm_of along_y f u) xs).sound ≡ true
-    unfolding auxiliary_span♯ auxiliary_slot♯
+        → is_some (auxiliary_span♯ deepest (level_place C d) C n first last (arm_of along_y f u) xs) ≡ true
     auxiliary-walk d first last u sorted balanced slots held =
-        ap (λ s. s.sound)
+        ap is_some
         (walk-passes along_y along_y-laws C (record_place (level_place C d)) (auxiliary_slot♯ C n first last xs) (λ b. b) (λ b name w. any_node) xs
-        small (λ s e. live_below s _ e) deepest (level_place C d) u (omega (arith, held-shallow held balanced small)) (omega (arith, held-weight held))
+        small (λ s e. live_below s _ _ e) deepest (level_place C d) u (omega (arith, held-shallow held balanced small)) (omega (arith, held-weight held))
         (record { sorted = sorted; balanced = balanced; slots = slots; records = held.records; tested = any-tested (level_place C d) u }))
 
     -- an inner main node's auxiliary tree
@@ -96,7 +96,6 @@ module _ (xs : List ℕ) where
         → Live (marks l ++ marks r)
         → HoldsAuxiliary f C d (least r) xs i → AuxiliaryOf f (marks l ++ marks r) i
         → auxiliary_stands♯ C n xs (level_place C d) (least r) (weight l + weight r) (least l) (greatest r) ≡ true
-    unfolding auxiliary_stands♯
     auxiliary-stands d low i l r sorted live h a =
         let u : Tree ℕ (List ℕ) = h.tree in
         let e : a.tree ≡ u = some-injective a.tree u (sym a.is ∙ h.is) in
@@ -124,14 +123,13 @@ module _ (xs : List ℕ) where
 
     -- the walk through the main tree
     main-walk : (t : SlotMain) → Live (marks t) → Entered (marks t) → TwoFold f C 0 xs t → ByRules f t
-        → (main_span♯ deepest (top_level C) C n (arm_of along_x f t) xs).sound ≡ true
-    unfolding main_span♯ main_slot♯
+        → is_some (main_span♯ deepest (top_level C) C n (arm_of along_x f t) xs) ≡ true
     main-walk t live entered h k =
         let shallow : depth t ≤ 38 = held-shallow h.main k.balanced small in
         rw (top-level C small)
-        (ap (λ s. s.sound)
+        (ap is_some
         (walk-passes along_x along_x-laws C main_place (main_slot♯ C n xs) (λ b. deeper b C) (auxiliary_stands♯ C n xs) xs
-        small (λ s e. live_below s _ e) deepest (level_place C 0) t (omega arith) (omega (arith, held-weight h.main))
+        small (λ s e. live_below s _ _ e) deepest (level_place C 0) t (omega arith) (omega (arith, held-weight h.main))
         (record {
           sorted = k.sorted;
           balanced = k.balanced;
@@ -152,7 +150,6 @@ module _ (xs : List ℕ) where
   -- the root, with or without a tree
   root_stands-complete : C ≤ 65536 → length xs ≡ W C → (o : Option SlotMain) → HoldsTree xs o → TreeByRules xs o → Entered (marks_of o)
       → n ≡ length (marks_of o) → EachOnce xs o → root_stands C n (arm_at xs root_place) xs ≡ true
-  unfolding root_stands
   root_stands-complete small long none h k entered many free = rw (h, many)
   root_stands-complete small long (some t) h k entered many free =
       let w : weight t ≡ n = weight-marks t ∙ sym many in
@@ -161,7 +158,6 @@ module _ (xs : List ℕ) where
 
 -- a sound table passes
 pub holding-tree : (xs : List ℕ) (T : Main) → Holding xs T → sound_tree♯ (capacity_of xs) (live_of xs) xs ≡ true
-unfolding sound_tree♯
 holding-tree xs T h =
     let entered =
     all-unmapped (slot_mark xs) (marks_of h.slots)

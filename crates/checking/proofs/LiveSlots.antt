@@ -1,15 +1,22 @@
 -- The lists of slots that pass the check are inverse to each other, and as many live slots as stand in a tree, each once, are all of them. Assumes
 -- nothing.
-use Prim.Native.Nat.{ℕ, zero, suc, ◌≤◌, ◌<◌}
-use mathlib.Core.Path.{◌≡◌, refl, sym, ◌∙◌}
+use Prim.Native.Nat.{ℕ, ◌≤◌, ◌<◌}
+use mathlib.Core.Path.{◌≡◌, sym, ◌∙◌}
 use mathlib.Core.Bool.{true}
 use mathlib.Core.List.{List}
 use native.Mathlib.Omega.{arith}
-use lib.Dec.{leb, ltb, eqb}
+use native.Mathlib.Nat.{zero-add}
+use lib.Dec.{ltb, eqb}
 use lib.ListN.{length, get_or}
-use borrow.Author.Tests.{lt-ltb, lt-leb, ltb-true, ltb-false, leb-false, eq-eqb, eqb-true}
+use borrow.Author.Tests.{lt-ltb, ltb-true, ltb-false, eq-eqb}
 use Rattle.model.specs.Lists.{indicator}
-use Rattle.model.proofs.Logic.{by_cases, by_order, clash}
+use Rattle.std.specs.Bool.{Decides}
+use Rattle.std.specs.List.{range_with_len}
+use Rattle.std.proofs.lemmas.Bool.{and_parts}
+use Rattle.std.proofs.lemmas.Bool.Decides.{Decides-and, Decides-ltb, Decides-eqb}
+use Rattle.std.proofs.lemmas.List.Sums.{AllPass-from_list_all, list_all-from_AllPass}
+use Rattle.std.proofs.lemmas.List.FromFn.{length-range_with_len, get_or-range_with_len}
+use Rattle.model.proofs.Logic.{by_cases}
 use Rattle.table.specs.Layout.{used_place, place_place}
 use Rattle.nodes.specs.Holds.{times_in}
 use Rattle.checking.specs.Slots.{live_slot♯, placed♯, inverse♯}
@@ -27,40 +34,23 @@ module _ (C : ℕ) (xs : List ℕ) where
     pub used : (i : ℕ) → i < C → (used_of i < C) × (place_of (used_of i) ≡ i)
     pub place : (s : ℕ) → s < C → (place_of s < C) × (used_of (place_of s) ≡ s)
 
-  placed-sound : (i : ℕ) → placed♯ C xs i ≡ true → (used_of i < C) × (place_of (used_of i) ≡ i)
-  unfolding placed♯
-  placed-sound i e =
-      by_cases (leb C (used_of i))
-      (λ t. clash e (rw t))
-      (λ f. (leb-false C (used_of i) f, eqb-true (place_of (used_of i)) i (rw f at e)))
+  placed-decides : (i : ℕ) → Decides (placed♯ C xs i) ((used_of i < C) × (place_of (used_of i) ≡ i))
+  placed-decides i =
+      Decides-and (ltb (used_of i) C) (eqb (place_of (used_of i)) i) (Decides-ltb (used_of i) C) (Decides-eqb (place_of (used_of i)) i)
 
-  placed-complete : (i : ℕ) → (used_of i < C) × (place_of (used_of i) ≡ i) → placed♯ C xs i ≡ true
-  unfolding placed♯
-  placed-complete i w = rw (lt-leb C (used_of i) w.0) (eq-eqb (place_of (used_of i)) i w.1)
-
-  below-sound : (n : ℕ) → inverse♯ n C xs ≡ true → (i : ℕ) → i < n → placed♯ C xs i ≡ true
-  unfolding inverse♯
-  below-sound zero e i h = absurd (omega arith)
-  below-sound (suc n) e i h =
-      by_cases (placed♯ C xs n)
-      (λ t. by_order i n
-      (λ k. below-sound n (rw t at e) i k)
-      (λ z. rw z t)
-      (λ k. absurd (omega arith)))
-      (λ f. clash e (rw f))
-
-  below-complete : (n : ℕ) → ((i : ℕ) → i < n → placed♯ C xs i ≡ true) → inverse♯ n C xs ≡ true
-  unfolding inverse♯
-  below-complete zero h = refl
-  below-complete (suc n) h = rw (h n (omega arith)) (below-complete n (λ i k. h i (omega arith)))
-
-  pub inverse-sound : inverse♯ C C xs ≡ true → Inverse
+  pub inverse-sound : inverse♯ C xs ≡ true → Inverse
   inverse-sound e =
-      let back : ((i : ℕ) → i < C → (used_of i < C) × (place_of (used_of i) ≡ i)) = λ i h. placed-sound i (below-sound C e i h) in
+      let all = AllPass-from_list_all (placed♯ C xs) (range_with_len 0 C) e in
+      let back : ((i : ℕ) → i < C → (used_of i < C) × (place_of (used_of i) ≡ i)) =
+      λ i h. (placed-decides i).0 (rw (get_or-range_with_len 0 C i 0 h, zero-add i) at (all i 0 (rw (length-range_with_len 0 C) h))) in
       record { used = back; place = inverse-both used_of place_of C back }
 
-  pub inverse-complete : ((i : ℕ) → i < C → (used_of i < C) × (place_of (used_of i) ≡ i)) → inverse♯ C C xs ≡ true
-  inverse-complete back = below-complete C (λ i h. placed-complete i (back i h))
+  pub inverse-complete : ((i : ℕ) → i < C → (used_of i < C) × (place_of (used_of i) ≡ i)) → inverse♯ C xs ≡ true
+  inverse-complete back =
+      list_all-from_AllPass (placed♯ C xs) (range_with_len 0 C)
+      (λ i d k.
+      let h : i < C = rw (length-range_with_len 0 C) at k in
+      rw (get_or-range_with_len 0 C i d h, zero-add i) ((placed-decides i).1 (back i h)))
 
   module _ (v : Inverse) (n : ℕ) (within : n ≤ C) where
     -- the first n of `used` are the slots placed below n
@@ -79,12 +69,7 @@ module _ (C : ℕ) (xs : List ℕ) where
         sub-bag l (firsts used_of n) no_more (many ∙ sym (firsts-length used_of n)) (eqb s) ∙ first-times s h
 
   pub live-slot : (n s : ℕ) → live_slot♯ C n xs s ≡ true → (s < C) × (place_of s < n)
-  unfolding live_slot♯
-  live-slot n s e =
-      by_cases (leb C s)
-      (λ t. clash e (rw t))
-      (λ f. (leb-false C s f, ltb-true (place_of s) n (rw f at e)))
+  live-slot n s e = let p = and_parts (ltb s C) (ltb (place_of s) n) e in (ltb-true s C p.0, ltb-true (place_of s) n p.1)
 
   pub slot-live : (n s : ℕ) → s < C → place_of s < n → live_slot♯ C n xs s ≡ true
-  unfolding live_slot♯
-  slot-live n s h k = rw (lt-leb C s h) (lt-ltb (place_of s) n k)
+  slot-live n s h k = rw (lt-ltb s C h, lt-ltb (place_of s) n k)

@@ -1,8 +1,9 @@
 -- A table that passes the check is sound. Assumes nothing.
-use Rattle.std.specs.Prelude.{if◌then◌else◌}
+use Rattle.std.specs.Prelude.{is_some}
+use Rattle.std.proofs.lemmas.Bool.{and_parts, not-true}
 use Prim.Native.Nat.{ℕ, ◌≤◌, ◌<◌}
 use mathlib.Core.Path.{◌≡◌, refl, sym, ap, subst, ◌∙◌}
-use mathlib.Core.Bool.{true, false}
+use mathlib.Core.Bool.{true, false, not, ◌||◌}
 use mathlib.Core.List.{List, map}
 use mathlib.Core.Option.{Option, none, some}
 use native.Mathlib.Omega.{arith}
@@ -14,7 +15,7 @@ use Rattle.model.specs.Tree.{marks, marks_of, least, greatest}
 use Rattle.model.specs.Sizes.{W, capacity_outside}
 use Rattle.model.specs.Sheet.{Mark, Main, mark_outside, grade_outside, along_x}
 use Rattle.model.specs.Laws.{All, nil}
-use Rattle.model.proofs.Logic.{by_cases, both-pass, fails-passes}
+use Rattle.model.proofs.Logic.{by_cases}
 use Rattle.model.proofs.Lists.{all_map, all-mapped}
 use Rattle.model.proofs.Orders.{along_x-laws}
 use Rattle.model.proofs.Sizes.{capacity-small}
@@ -35,6 +36,7 @@ use Rattle.twofold_layout.proofs.Stands.{stands-marks}
 use Rattle.checking.specs.Slots.{live_slot♯, inverse♯}
 use Rattle.checking.specs.Trees.{auxiliary_stands♯, main_slot♯, main_span♯}
 use Rattle.checking.specs.Check.{root_stands, sound_tree♯}
+use Rattle.checking.proofs.Comparing.{three_parts}
 use Rattle.checking.proofs.Walked.{read_tree}
 use Rattle.checking.proofs.Reading.{Reads, walk-reads}
 use Rattle.checking.proofs.LiveSlots.{Inverse, inverse-sound, live-once, live-slot}
@@ -57,13 +59,11 @@ module _ (xs : List ℕ) where
 
   main-slot : (s : ℕ) → main_slot♯ C n xs s ≡ true
       → (live_slot♯ C n xs s ≡ true) × (mark_outside (slot_mark xs s) ≡ false) × (grade_outside (slot_mark xs s) ≡ false)
-  unfolding main_slot♯
   main-slot s e =
       let outside = mark_outside (slot_mark xs s) in
       let ungraded = grade_outside (slot_mark xs s) in
-      let a = both-pass (live_slot♯ C n xs s) (if outside then false else (if ungraded then false else true)) e in
-      let b = fails-passes outside (if ungraded then false else true) a.1 in
-      (a.0, b.0, (fails-passes ungraded true b.1).0)
+      let p = three_parts (live_slot♯ C n xs s) (not outside) (not ungraded) e in
+      (p.0, not-true outside p.1, not-true ungraded p.2)
 
   module _ (is_open : get_or xs open_place 0 ≡ 1) (capacity : capacity_outside C ≡ false) (long : length xs ≡ W C) (within : n ≤ C) (v : Inverse C xs)
       (heavy : (arm_at xs root_place).weight ≡ n) where
@@ -92,10 +92,9 @@ module _ (xs : List ℕ) where
       free = each-once none (λ s. omega arith) (λ s h. absurd (omega arith)) (sym z);
     }
 
-    module _ (e : (main_span♯ deepest (top_level C) C n (arm_at xs root_place) xs).sound ≡ true) where
+    module _ (e : is_some (main_span♯ deepest (top_level C) C n (arm_at xs root_place) xs) ≡ true) where
       main-reads : Reads along_x along_x-laws C main_place (main_slot♯ C n xs) (λ b. deeper b C) (auxiliary_stands♯ C n xs) xs
           (carry xs) deepest (top_level C) (arm_at xs root_place) (main_tree xs)
-      unfolding main_span♯
       main-reads =
           walk-reads along_x along_x-laws C main_place (main_slot♯ C n xs) (λ b. deeper b C) (auxiliary_stands♯ C n xs) xs
           (carry xs) deepest (top_level C) (arm_at xs root_place) e
@@ -150,14 +149,13 @@ module _ (xs : List ℕ) where
 
 pub tree-holding : (xs : List ℕ) → get_or xs open_place 0 ≡ 1 → capacity_outside (capacity_of xs) ≡ false → length xs ≡ W (capacity_of xs)
     → live_of xs ≤ capacity_of xs → sound_tree♯ (capacity_of xs) (live_of xs) xs ≡ true → (T : Main) × Holding xs T
-unfolding sound_tree♯ root_stands
 tree-holding xs is_open capacity long within e =
     let C = capacity_of xs in
     let n = live_of xs in
     let root = arm_at xs root_place in
-    let tree = (main_span♯ deepest (top_level C) C n root xs).sound in
-    let a = both-pass (inverse♯ C C xs) (root_stands C n root xs) e in
-    let b = both-pass (eqb root.weight n) (if eqb n 0 then true else tree) a.1 in
+    let tree = is_some (main_span♯ deepest (top_level C) C n root xs) in
+    let a = and_parts (inverse♯ C xs) (root_stands C n root xs) e in
+    let b = and_parts (eqb root.weight n) (eqb n 0 || tree) a.1 in
     let v = inverse-sound C xs a.0 in
     let heavy = eqb-true root.weight n b.0 in
     by_cases (eqb n 0)

@@ -5,4 +5,3 @@ pub mod Slots
 pub mod Span
 pub mod Trees
 pub mod Check
-pub mod Values

@@ -1,98 +1,67 @@
-// The walk through an auxiliary tree.
-ghost use Rattle.std.specs.Prelude.{◌≡◌, ◌+◌, ◌<◌, ◌≤◌, length};
-ghost use Rattle.model.specs.Sheet.{along_y};
-ghost use Rattle.table.specs.Layout.{mark_width, slot_place, slots_end, level_end};
-ghost use Rattle.nodes.specs.Values.{secondary_arm};
-ghost use Rattle.checking.specs.Span.{span_leaf, span_over, any_node};
-ghost use Rattle.checking.specs.Trees.{auxiliary_slot♯, auxiliary_span♯};
-ghost use Rattle.checking.specs.Values.{ends_value};
+// The auxiliary tree of a main node, as it is walked.
+ghost use Rattle.std.specs.Prelude.{◌<◌, ◌≤◌, length};
+ghost use Rattle.table.specs.Layout.{level_end};
+ghost use Rattle.checking.specs.Span.{any_node};
+ghost use Rattle.checking.specs.Trees.{auxiliary_slot♯};
+ghost use Rattle.nodes.specs.Trees.{level_before_end};
+ghost use Rattle.std.proofs.Common.{arith};
 
+use crate::checked::Checked;
 use crate::ends::Ends;
-use crate::{arms, ends, slots};
-use nodes::arm::Arm;
-use nodes::secondary::{SecondaryArm, SecondaryRecord};
+use crate::walk::Walk;
+use geometry::{AlongX, Axis};
+use nodes::secondary::Secondary;
 
-// Whether a slot may stand in the auxiliary tree of a main node whose least and greatest slots are `first` and `last`: it holds a mark, not below the one
-// nor above the other.
-fn may_stand(t: &[u32], capacity: u32, live: u32, first: u32, last: u32, s: u32) -> bool
-    requires { (first < capacity) × (last < capacity) × (s < capacity) × (slots_end capacity ≤ length t.now) }
-    ensures { result ≡ auxiliary_slot♯ capacity live first last t.now s }
-{
-    if slots::is_live(t, capacity, live, s) {
-        let m = table::slots::load(t, s);
-        let lo = table::slots::load(t, first);
-        let hi = table::slots::load(t, last);
-        if m.below_x(lo) {
-            return false;
-        }
-        if hi.below_x(m) {
-            return false;
-        }
-        return true;
-    }
-    false
+// The auxiliary tree of a main node whose least and greatest slots are `first` and `last`; its records stand in the level that begins at base.
+#[derive(Clone, Copy)]
+pub struct AuxiliaryTree<'a> {
+    pub of: Checked<'a>,
+    pub base: u32,
+    pub first: u32,
+    pub last: u32,
+    pub ghost ends_there: { (first < of.capacity) × (last < of.capacity) },
+    pub ghost level_there: { level_end base of.capacity ≤ length of.t.now },
 }
 
-// The leaf of slot s.
-fn leaf(t: &[u32], capacity: u32, live: u32, first: u32, last: u32, s: u32, a: SecondaryArm) -> Ends
-    requires { (first < capacity) × (last < capacity) × (s < capacity) × (slots_end capacity ≤ length t.now) }
-    ensures { ends_value result ≡ span_leaf along_y (auxiliary_slot♯ capacity live first last t.now) s (secondary_arm a) t.now }
-{
-    if may_stand(t, capacity, live, first, last, s) {
-        let m = table::slots::load(t, s);
-        if arms::same(a.bare(), Arm::leaf(s, m.y, m.grade)) {
-            return ends::between(s, s);
+impl<'a> Walk<Secondary> for AuxiliaryTree<'a> {
+    ghost of = { λ w. w.of };
+
+    ghost tree = { λ w. record { base = w.base; capacity = w.of.capacity } };
+
+    ghost slot = { λ w. auxiliary_slot♯ w.of.capacity w.of.live w.first w.last w.of.t.now };
+
+    // The level stays the same, and the nodes carry nothing that stands in the words.
+    ghost next = { λ w base. base };
+
+    ghost test = { λ w base name weight. any_node };
+
+    ghost record_there = { λ w name h. Prim.omega (arith, level_before_end w.base w.of.capacity name h, w.level_there) };
+
+    fn of(&self) -> Checked<'_> {
+        self.of
+    }
+
+    fn tree(&self) -> Secondary {
+        Secondary {
+            base: self.base,
+            capacity: self.of.capacity,
         }
     }
-    ends::none()
-}
 
-// A node of that name over two trees: the marks of the left one are below those of the right one.
-fn over(t: &[u32], name: u32, x: Ends, y: Ends) -> Ends
-    requires { (slot_place x.last + mark_width ≤ length t.now) × (slot_place name + mark_width ≤ length t.now) }
-    ensures { ends_value result ≡ span_over along_y any_node name (ends_value x) (ends_value y) t.now }
-{
-    if ends::joins(name, x, y) {
-        let m = table::slots::load(t, x.last);
-        if m.below_y(table::slots::load(t, name)) {
-            return ends::between(x.first, y.last);
-        }
+    // A slot holds a mark, not below that of the node's least slot nor above that of the greatest.
+    fn may_stand(&self, s: u32) -> bool {
+        let k = self.of;
+        let m = k.mark(s);
+        k.is_live(s)
+            && !AlongX::below(m, k.mark(self.first))
+            && !AlongX::below(k.mark(self.last), m)
     }
-    ends::none()
-}
 
-// The tree of an arm, its records in the level that begins at base. A node of no slot is damage.
-pub fn tree(
-    t: &[u32],
-    base: u32,
-    capacity: u32,
-    live: u32,
-    first: u32,
-    last: u32,
-    a: SecondaryArm,
-    fuel: u32,
-) -> Ends
-    requires { (first < capacity) × (last < capacity) × (slots_end capacity ≤ length t.now) × (level_end base capacity ≤ length t.now) }
-    ensures { ends_value result ≡ auxiliary_span♯ fuel base capacity live first last (secondary_arm a) t.now }
-{
-    if fuel == 0 {
-        return ends::none();
+    fn beneath(&self, base: u32) -> u32 {
+        base
     }
-    let node = a.node;
-    let name = node.slot();
-    if capacity <= name {
-        return ends::none();
+
+    fn passes(&self, _base: u32, _name: u32, _weight: u32, _x: Ends) -> bool {
+        true
     }
-    if node.is_leaf() {
-        return leaf(t, capacity, live, first, last, name, a);
-    }
-    let p = SecondaryRecord::load(t, base, name);
-    let l = p.left;
-    let r = p.right;
-    if arms::fits(a.bare(), name, l.bare(), r.bare()) {
-        let x = tree(t, base, capacity, live, first, last, l, fuel - 1);
-        let y = tree(t, base, capacity, live, first, last, r, fuel - 1);
-        return over(t, name, x, y);
-    }
-    ends::none()
 }

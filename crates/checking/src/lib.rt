@@ -6,6 +6,7 @@
 pub mod arms;
 pub mod auxiliary_tree;
 pub mod check;
+pub mod checked;
 pub mod ends;
 pub mod main_tree;
-pub mod slots;
+pub mod walk;

@@ -15,14 +15,40 @@ use Rattle.model.proofs.Logic.{by_cases}
 use Rattle.table.specs.Layout.{list_place}
 use Rattle.table.specs.Marks.{list_marks}
 use Rattle.sorting.proofs.Words.{list_marks-length}
-use Rattle.register.specs.Answers.{ListFigures, in_list, list_given}
+use Rattle.register.specs.Answers.{ListFigures, in_list, list_given, number_of}
+use Rattle.register.specs.declared.refusal.Refusal.{Refusal}
+use Rattle.register.specs.declared.refusal.Refusal.TheVariants as refusals
 use Rattle.register.specs.Performs.{Lent, early, Later, short, lists, unsound, Performs}
 use Rattle.lines.specs.Commands.{Command, insert, strike, count, list, letter}
-use Rattle.lines.specs.Responses.{first_line, mark_lines, figures, marks_after, not_a_line}
+use Rattle.lines.specs.Responses.{first_line, answer_line, refusal_line, mark_lines, figures, marks_after, not_a_line}
 use Rattle.lines.specs.Writing.{Wrote}
 use Rattle.lines.proofs.Responses.{printed-first, printed-accepted}
 use Rattle.lines.proofs.Writing.{wrote_then, wrote-front}
 use Rattle.dialogue.specs.Responding.{call_of, lent_to, longest_response, Answered, Does, performed, turned_away}
+
+-- the first line of an accepted answer, and of a refusal, which has a number
+pub accepted-line : (c : ℕ) (ns : List ℕ) → first_line c 0 ns ≡ answer_line c ns
+unfolding first_line
+accepted-line c ns = refl
+
+numbered : (e : Refusal) → number_of e ≢ 0
+numbered = elim [
+  | refusals.Capacity ↦ λ z. omega arith
+  | refusals.ShortTable ↦ λ z. omega arith
+  | refusals.NotTable ↦ λ z. omega arith
+  | refusals.Unsound ↦ λ z. omega arith
+  | refusals.Outside ↦ λ z. omega arith
+  | refusals.Crossed ↦ λ z. omega arith
+  | refusals.Full ↦ λ z. omega arith
+  | refusals.Present ↦ λ z. omega arith
+  | refusals.Absent ↦ λ z. omega arith
+  | refusals.ShortList k ↦ λ z. omega arith
+  | refusals.Ungraded ↦ λ z. omega arith
+]
+
+pub refused-line : (e : Refusal) (c : ℕ) (ns : List ℕ) → first_line c (number_of e) ns ≡ refusal_line (number_of e)
+unfolding first_line
+refused-line e c ns = rw (ne_eqb (number_of e) 0 (numbered e))
 
 -- a response of one line
 module _ (c : Command) (call : Call) (before after : Lent) (a : Answer) (p : Performs call before after a) where

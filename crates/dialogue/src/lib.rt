@@ -1,6 +1,7 @@
 // A dialogue of the line program (document 01, "The planner and the line program"): lines performed on the register, with their responses in lent bytes.
 #![tactic(auto)]
 
-pub mod batch;
+mod dialogue;
 pub mod perform;
-pub mod turn;
+
+pub use dialogue::Dialogue;

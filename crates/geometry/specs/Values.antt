@@ -1,15 +1,18 @@
--- What the crate's values mean: the model's mark, box and keys, and document 01's number for each case of an answer. Assumes nothing.
-use Rattle.std.specs.Prelude.{ℕ, ◌+◌, ◌*◌, Bool, ◌&&◌, ◌||◌, [], ◌∷◌, ltb, eqb}
-use Rattle.model.specs.Axis.{lexicographic}
+-- What the crate's values mean: the model's axes, marks, boxes and keys, and document 01's number for each case of an answer. Assumes nothing.
+use Rattle.std.specs.Prelude.{ℕ, ◌+◌, ◌*◌, Bool, ◌&&◌, ◌||◌, [], ◌∷◌, ltb, eqb, Result, Ok, Err}
+use Rattle.model.specs.Axis.{Axis, lexicographic}
 use Rattle.model.specs.Sheet
 use Rattle.model.specs.Refusals.{Outcome, accepted, refused}
 use Rattle.geometry.specs.declared.Mark.{Mark}
 use Rattle.geometry.specs.declared.Box.{Box}
 use Rattle.geometry.specs.declared.Key.{Key}
-use Rattle.geometry.specs.declared.NewMark.{NewMark}
-use Rattle.geometry.specs.declared.NewMark.TheVariants as new_mark
-use Rattle.geometry.specs.declared.NewBox.{NewBox}
-use Rattle.geometry.specs.declared.NewBox.TheVariants as new_box
+use Rattle.geometry.specs.declared.MarkError.{MarkError}
+use Rattle.geometry.specs.declared.MarkError.TheVariants.{Outside, Ungraded}
+use Rattle.geometry.specs.declared.Crossed.{Crossed}
+
+-- the model's axis of the sheet's marks and boxes
+abbrev pub SheetAxis : Type 0
+SheetAxis = Axis Sheet.Mark Sheet.Box
 
 abbrev pub mark_value : Mark → Sheet.Mark
 mark_value m = record { x = m.x; y = m.y; tag = m.tag; grade = m.grade }
@@ -35,12 +38,12 @@ abbrev pub place_below : Key → Key → Bool
 place_below a b = ltb (place a) (place b) || (eqb (place a) (place b) && ltb a.tag b.tag)
 
 -- "insert, strike: the mark: 5"; "12, grade outside 1 to 100" (R-1)
-abbrev pub mark_outcome : NewMark → Outcome Sheet.Mark
-mark_outcome (new_mark.Valid m) = accepted (mark_value m)
-mark_outcome new_mark.Outside = refused 5
-mark_outcome new_mark.Ungraded = refused 12
+abbrev pub mark_outcome : Result Mark MarkError → Outcome Sheet.Mark
+mark_outcome (Ok m) = accepted (mark_value m)
+mark_outcome (Err Outside) = refused 5
+mark_outcome (Err Ungraded) = refused 12
 
 -- "count, list: the box: 6"
-abbrev pub box_outcome : NewBox → Outcome Sheet.Box
-box_outcome (new_box.Valid b) = accepted (box_value b)
-box_outcome new_box.Crossed = refused 6
+abbrev pub box_outcome : Result Box Crossed → Outcome Sheet.Box
+box_outcome (Ok b) = accepted (box_value b)
+box_outcome (Err _) = refused 6

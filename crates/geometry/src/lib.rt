@@ -3,9 +3,10 @@
 
 ghost use Rattle.std.specs.Prelude.{◌≡◌, not};
 ghost use Rattle.model.specs.Axis.{cell_inside, cell_clear};
-ghost use Rattle.model.specs.Sheet.{mark, below_x, below_y, same, holds, mark_outside, grade_outside, along_x, along_y};
+ghost use Rattle.model.specs.Sheet.{mark, same, holds, mark_outside, grade_outside, along_x, along_y};
 ghost use Rattle.model.specs.Refusals.{enter_mark, enter_box};
 ghost use Rattle.geometry.specs.Values.{
+  SheetAxis,
   mark_value,
   box_value,
   place,
@@ -25,10 +26,9 @@ pub struct Mark {
     pub grade: u32,
 }
 
-// A mark, or the refusals 5 (document 01) and 12 (R-1, "checked after 5").
-#[derive(Clone, Copy)]
-pub enum NewMark {
-    Valid(Mark),
+// Why four words make no mark: the refusals 5 (document 01) and 12 (R-1, "checked after 5").
+#[derive(Clone, Copy, PartialEq, Eq)]
+pub enum MarkError {
     Outside,
     Ungraded,
 }
@@ -46,22 +46,16 @@ impl Key {
     fn place(self) -> u64
         ensures { result ≡ place self }
     {
-        4294967296 * (self.major as u64) + (self.minor as u64)
+        4294967296 * u64::from(self.major) + u64::from(self.minor)
     }
 
-    // For both orders: two places are compared here and in `Mark::same`, by their numbers. Why in this form: docs/DECISIONS.md.
+    // For both orders: two places are compared here and in `Mark::same`, by their numbers. Why in this form, and not a derived order: docs/DECISIONS.md.
     fn below(self, other: Key) -> bool
         ensures { result ≡ key_below self other }
     {
         let here = self.place();
         let there = other.place();
-        if here < there {
-            return true;
-        }
-        if here == there {
-            return self.tag < other.tag;
-        }
-        false
+        here < there || here == there && self.tag < other.tag
     }
 }
 
@@ -72,17 +66,18 @@ impl Mark {
     // The worst grade.
     pub const WORST: u32 = 100;
 
-    pub fn new(x: u32, y: u32, tag: u32, grade: u32) -> NewMark
+    #[tactic(auto, unfolding(model::specs::Refusals::enter_mark))]
+    pub fn new(x: u32, y: u32, tag: u32, grade: u32) -> Result<Mark, MarkError>
         ensures { mark_outcome result ≡ enter_mark (mark x y tag grade) }
     {
         let m = Mark { x, y, tag, grade };
         if m.is_outside() {
-            return NewMark::Outside;
+            return Err(MarkError::Outside);
         }
         if m.is_ungraded() {
-            return NewMark::Ungraded;
+            return Err(MarkError::Ungraded);
         }
-        NewMark::Valid(m)
+        Ok(m)
     }
 
     // The mark that a strike names, by x, y and tag: no order and no sameness looks at its grade.
@@ -98,63 +93,26 @@ impl Mark {
     }
 
     // Whether the grade is 0 or beyond the worst.
+    #[tactic(auto, unfolding(model::specs::Sheet::grade_outside))]
     pub fn is_ungraded(self) -> bool
         ensures { result ≡ grade_outside (mark_value self) }
     {
-        if self.grade < 1 {
-            return true;
-        }
-        Self::WORST < self.grade
+        self.grade < 1 || Self::WORST < self.grade
     }
 
     // Whether x or y is beyond the largest coordinate.
+    #[tactic(auto, unfolding(model::specs::Sheet::mark_outside))]
     pub fn is_outside(self) -> bool
         ensures { result ≡ mark_outside (mark_value self) }
     {
-        if Self::MAX < self.x {
-            return true;
-        }
-        Self::MAX < self.y
+        Self::MAX < self.x || Self::MAX < self.y
     }
 
-    fn by_x(self) -> Key
-        ensures { result ≡ key_x self }
-    {
-        Key {
-            major: self.x,
-            minor: self.y,
-            tag: self.tag,
-        }
-    }
-
-    fn by_y(self) -> Key
-        ensures { result ≡ key_y self }
-    {
-        Key {
-            major: self.y,
-            minor: self.x,
-            tag: self.tag,
-        }
-    }
-
-    // By x, y, tag: the order of the main tree and of a list.
-    pub fn below_x(self, other: Mark) -> bool
-        ensures { result ≡ below_x (mark_value self) (mark_value other) }
-    {
-        self.by_x().below(other.by_x())
-    }
-
-    // By y, x, tag: the order of an auxiliary tree.
-    pub fn below_y(self, other: Mark) -> bool
-        ensures { result ≡ below_y (mark_value self) (mark_value other) }
-    {
-        self.by_y().below(other.by_y())
-    }
-
+    // Not derived: a mark's grade is no part of its sameness (R-1). The place goes by its number, as in the orders (R-5).
     pub fn same(self, other: Mark) -> bool
         ensures { result ≡ same (mark_value self) (mark_value other) }
     {
-        (self.by_x().place() == other.by_x().place()) & (self.tag == other.tag)
+        (AlongX::key(self).place() == AlongX::key(other).place()) & (self.tag == other.tag)
     }
 }
 
@@ -167,97 +125,133 @@ pub struct Box {
     pub y2: u32,
 }
 
-// A box of four words, or document 01's refusal 6.
-#[derive(Clone, Copy)]
-pub enum NewBox {
-    Valid(Box),
-    Crossed,
-}
+// Why four words make no box: document 01's refusal 6.
+#[derive(Clone, Copy, PartialEq, Eq)]
+pub struct Crossed;
 
 impl Box {
-    pub fn new(x1: u32, x2: u32, y1: u32, y2: u32) -> NewBox
+    #[tactic(auto, unfolding(model::specs::Refusals::enter_box, model::specs::Sheet::box_crossed))]
+    pub fn new(x1: u32, x2: u32, y1: u32, y2: u32) -> Result<Box, Crossed>
         ensures { box_outcome result ≡ enter_box (record { x1 = x1; x2 = x2; y1 = y1; y2 = y2 }) }
     {
-        if x2 < x1 {
-            return NewBox::Crossed;
+        if x2 < x1 || y2 < y1 {
+            return Err(Crossed);
         }
-        if y2 < y1 {
-            return NewBox::Crossed;
-        }
-        NewBox::Valid(Box { x1, x2, y1, y2 })
-    }
-
-    // A coordinate lies before the box's side along x. The four ends are compared here and in the next three, and nowhere else.
-    pub fn before_x(self, v: u32) -> bool
-        ensures { result ≡ not (along_x.from_low (box_value self) v) }
-    {
-        v < self.x1
-    }
-
-    // A coordinate lies past that side, or on its high end.
-    pub fn past_x(self, v: u32) -> bool
-        ensures { result ≡ not (along_x.to_high (box_value self) v) }
-    {
-        self.x2 <= v
-    }
-
-    pub fn before_y(self, v: u32) -> bool
-        ensures { result ≡ not (along_y.from_low (box_value self) v) }
-    {
-        v < self.y1
-    }
-
-    pub fn past_y(self, v: u32) -> bool
-        ensures { result ≡ not (along_y.to_high (box_value self) v) }
-    {
-        self.y2 <= v
+        Ok(Box { x1, x2, y1, y2 })
     }
 
     // A place is a cell of one coordinate along each axis.
+    #[tactic(auto, unfolding(model::specs::Sheet::holds))]
     pub fn holds(self, m: Mark) -> bool
         ensures { result ≡ holds (box_value self) (mark_value m) }
     {
-        if self.inside_x(m.x, m.x) {
-            return self.inside_y(m.y, m.y);
-        }
-        false
+        AlongX::inside(self, m.x, m.x) && AlongY::inside(self, m.y, m.y)
     }
+}
 
-    // A cell from least to greatest lies inside the box's side along x.
-    pub fn inside_x(self, least: u32, greatest: u32) -> bool
-        ensures { result ≡ cell_inside along_x (box_value self) least greatest }
+// What a tree goes by, of either kind: its order of marks, a mark's coordinate, and the ends of a box's side along it.
+pub trait Axis {
+    ghost along: { SheetAxis };
+
+    fn below(m: Mark, other: Mark) -> bool
+        ensures { result ≡ along.below (mark_value m) (mark_value other) };
+
+    fn at(m: Mark) -> u32
+        ensures { result ≡ along.at (mark_value m) };
+
+    // A coordinate lies before the box's side. The four ends are compared in this function and the next, and nowhere else.
+    fn before(b: Box, v: u32) -> bool
+        ensures { result ≡ not (along.from_low (box_value b) v) };
+
+    // A coordinate lies past that side, or on its high end.
+    fn past(b: Box, v: u32) -> bool
+        ensures { result ≡ not (along.to_high (box_value b) v) };
+
+    // A cell from least to greatest lies inside the box's side.
+    final fn inside(b: Box, least: u32, greatest: u32) -> bool
+        ensures { result ≡ cell_inside along (box_value b) least greatest }
     {
-        if self.before_x(least) {
-            return false;
-        }
-        !self.past_x(greatest)
+        !Self::before(b, least) && !Self::past(b, greatest)
     }
 
     // A cell lies clear of that side.
-    pub fn clear_x(self, least: u32, greatest: u32) -> bool
-        ensures { result ≡ cell_clear along_x (box_value self) least greatest }
+    final fn clear(b: Box, least: u32, greatest: u32) -> bool
+        ensures { result ≡ cell_clear along (box_value b) least greatest }
     {
-        if self.before_x(greatest) {
-            return true;
+        Self::before(b, greatest) || Self::past(b, least)
+    }
+}
+
+// By x, y, tag: the order of the main tree and of a list.
+#[derive(Clone, Copy)]
+pub struct AlongX;
+
+impl AlongX {
+    fn key(m: Mark) -> Key
+        ensures { result ≡ key_x m }
+    {
+        Key {
+            major: m.x,
+            minor: m.y,
+            tag: m.tag,
         }
-        self.past_x(least)
+    }
+}
+
+#[tactic(auto, unfolding(model::specs::Sheet::below_x, crate::specs::Values::key_below, model::specs::Sheet::from_x1, model::specs::Sheet::to_x2))]
+impl Axis for AlongX {
+    ghost along = { along_x };
+
+    fn below(m: Mark, other: Mark) -> bool {
+        AlongX::key(m).below(AlongX::key(other))
     }
 
-    pub fn inside_y(self, least: u32, greatest: u32) -> bool
-        ensures { result ≡ cell_inside along_y (box_value self) least greatest }
-    {
-        if self.before_y(least) {
-            return false;
-        }
-        !self.past_y(greatest)
+    fn at(m: Mark) -> u32 {
+        m.x
     }
 
-    pub fn clear_y(self, least: u32, greatest: u32) -> bool
-        ensures { result ≡ cell_clear along_y (box_value self) least greatest }
+    fn before(b: Box, v: u32) -> bool {
+        v < b.x1
+    }
+
+    fn past(b: Box, v: u32) -> bool {
+        b.x2 <= v
+    }
+}
+
+// By y, x, tag: the order of an auxiliary tree.
+#[derive(Clone, Copy)]
+pub struct AlongY;
+
+impl AlongY {
+    fn key(m: Mark) -> Key
+        ensures { result ≡ key_y m }
     {
-        if self.before_y(greatest) {
-            return true;
+        Key {
+            major: m.y,
+            minor: m.x,
+            tag: m.tag,
         }
-        self.past_y(least)
+    }
+}
+
+#[tactic(auto, unfolding(model::specs::Sheet::below_y, crate::specs::Values::key_below, model::specs::Sheet::from_y1, model::specs::Sheet::to_y2))]
+impl Axis for AlongY {
+    ghost along = { along_y };
+
+    fn below(m: Mark, other: Mark) -> bool {
+        AlongY::key(m).below(AlongY::key(other))
+    }
+
+    fn at(m: Mark) -> u32 {
+        m.y
+    }
+
+    fn before(b: Box, v: u32) -> bool {
+        v < b.y1
+    }
+
+    fn past(b: Box, v: u32) -> bool {
+        b.y2 <= v
     }
 }

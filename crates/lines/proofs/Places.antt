@@ -1,89 +1,132 @@
--- The mirror of the reading, step by step as the code goes, from a place of a line on. Assumes nothing.
+-- The mirror of the reading of digits, step by step as the loop goes, at a place of a line. Assumes nothing.
+use Rattle.std.specs.Char.{is_ascii_digit}
 use Prim.Native.Nat.{ℕ, suc, ◌+◌, ◌-◌, ◌*◌, ◌≤◌, ◌<◌}
-use mathlib.Core.Path.{◌≡◌, sym, ap, ◌∙◌}
-use mathlib.Core.Bool.{false}
-use mathlib.Core.List.{List, ◌∷◌}
-use mathlib.Core.Option.{none, some}
-use native.Mathlib.Nat.{add-zero}
+use mathlib.Core.Path.{◌≡◌, refl, ◌∙◌}
+use mathlib.Core.Bool.{true, false}
+use mathlib.Core.List.{List, [], ◌∷◌, ◌++◌, append-nil}
+use mathlib.Core.Option.{Option, none, some}
+use native.Mathlib.Numerals.{add-one}
 use native.Mathlib.Omega.{arith}
-use lib.Dec.{ltb}
-use lib.ListN.{length, get_or, drop, drop_of_length-le, get_or-eq_default}
-use lib.Seq.{get_or-drop, drop-drop, drop-cons}
-use borrow.Author.Tests.{ltb-false, ltb-true, le-leb, lt-leb, eq-eqb, ne_eqb}
-use Rattle.model.proofs.Logic.{by_cases}
-use Rattle.lines.specs.Reading.{number, is_digit, read_on♯, read_number♯, read_field♯, at_end}
-use Rattle.lines.proofs.Reading.{digit-test, read_on-stops}
+use lib.ListN.{length, get_or, take, drop, set, length-drop, drop_of_length-le}
+use lib.Seq.{take_all, drop-cons, append_snoc}
+use Rattle.std.proofs.lemmas.List.{take_more_set}
+use borrow.Author.Tests.{le-leb, lt-leb, ne_eqb}
+use Rattle.std.proofs.Common.{◌⊎◌, inl, inr}
+use Rattle.lines.specs.Reading.{Number, number, read_on♯, read_number♯, read_field♯, some_of, at_end, read_numbers♯}
+use Rattle.lines.specs.Reading.{insert_of, strike_of, count_of, list_of, read♯}
+use Rattle.lines.proofs.Reading.{digit-test}
 
-low_digit : (b : ℕ) → b < 48 → is_digit b ≡ false
-unfolding is_digit
-low_digit b h = rw (lt-leb 48 b h)
-
-high_digit : (b : ℕ) → 57 < b → is_digit b ≡ false
-unfolding is_digit
-high_digit b h = let low : 48 ≤ b = omega arith in rw (le-leb 48 b low, lt-leb b 57 h)
-
--- the byte b of the line at the place
-module _ (l : List ℕ) (at b : ℕ) (e : b ≡ get_or l at 0) where
-  first : get_or (drop at l) 0 0 ≡ b
-  first = get_or-drop at l 0 0 ∙ ap (λ (i : ℕ). get_or l i 0) (add-zero at) ∙ sym e
-
-  -- only past the end nothing stands
-  pub byte_inside : 0 < b → at < length l
-  byte_inside h =
-      by_cases (ltb at (length l))
-      (λ t. ltb-true at (length l) t)
-      (λ u. absurd (omega (arith, e, get_or-eq_default l 0 (ltb-false at (length l) u))))
-
-  pub read_on-low : (v : ℕ) → b < 48 → read_on♯ v (drop at l) ≡ some (number v (drop at l))
-  read_on-low v h = read_on-stops v (drop at l) (ap is_digit first ∙ low_digit b h)
-
-  pub read_on-high : (v : ℕ) → 57 < b → read_on♯ v (drop at l) ≡ some (number v (drop at l))
-  read_on-high v h = read_on-stops v (drop at l) (ap is_digit first ∙ high_digit b h)
-
-  cut : at < length l → drop at l ≡ b ∷ drop (at + 1) l
-  cut h = let s : suc at ≡ at + 1 = omega arith in drop-cons l at 0 h ∙ rw (← e, s)
-
-  pub read_on-large : (v : ℕ) → at < length l → 48 ≤ b → b ≤ 57 → 4294967295 < 10 * v + (b - 48) → read_on♯ v (drop at l) ≡ none
+-- the byte at the place, after the digits of v
+module _ (l : List ℕ) (i v : ℕ) (inside : i < length l) where
+  pub read_on-other : is_ascii_digit (get_or l i 0) ≡ false → read_on♯ v (drop i l) ≡ some (number v (drop i l))
   unfolding read_on♯
-  read_on-large v inside low high h = rw (cut inside, digit-test b (low, high), lt-leb (10 * v + (b - 48)) 4294967295 h)
+  read_on-other h = rw (drop-cons l i 0 inside, h)
 
-  pub read_on-digit : (v : ℕ) → at < length l → 48 ≤ b → b ≤ 57 → 10 * v + (b - 48) ≤ 4294967295
-      → read_on♯ v (drop at l) ≡ read_on♯ (10 * v + (b - 48)) (drop (at + 1) l)
+  pub read_on-large : is_ascii_digit (get_or l i 0) ≡ true → 4294967296 ≤ 10 * v + (get_or l i 0 - 48) → read_on♯ v (drop i l) ≡ none
   unfolding read_on♯
-  read_on-digit v inside low high h = rw (cut inside, digit-test b (low, high), le-leb (10 * v + (b - 48)) 4294967295 h)
+  read_on-large d h = rw (drop-cons l i 0 inside, d, lt-leb (10 * v + (get_or l i 0 - 48)) 4294967295 (omega arith))
 
-  pub read_number-low : b < 48 → read_number♯ (drop at l) ≡ none
-  unfolding read_number♯
-  read_number-low h = rw (first, low_digit b h)
-
-  pub read_number-high : 57 < b → read_number♯ (drop at l) ≡ none
-  unfolding read_number♯
-  read_number-high h = rw (first, high_digit b h)
-
-  pub read_number-zero : b ≡ 48 → read_number♯ (drop at l) ≡ some (number 0 (drop (at + 1) l))
-  unfolding read_number♯
-  read_number-zero h = rw (first, digit-test b (omega arith, omega arith), eq-eqb b 48 h, drop-drop 1 at l)
-
-  pub read_number-digit : 48 ≤ b → b ≤ 57 → (b ≡ 48 → ⊥) → read_number♯ (drop at l) ≡ read_on♯ (b - 48) (drop (at + 1) l)
-  unfolding read_number♯
-  read_number-digit low high h = rw (first, digit-test b (low, high), ne_eqb b 48 h, drop-drop 1 at l)
-
-  pub read_field-comma : b ≡ 44 → read_field♯ (drop at l) ≡ read_number♯ (drop (at + 1) l)
-  unfolding read_field♯
-  read_field-comma h = rw (first, eq-eqb b 44 h, drop-drop 1 at l)
-
-  pub read_field-other : (b ≡ 44 → ⊥) → read_field♯ (drop at l) ≡ none
-  unfolding read_field♯
-  read_field-other h = rw (first, ne_eqb b 44 h)
+  pub read_on-digit : is_ascii_digit (get_or l i 0) ≡ true → (more : ℕ) → more ≡ 10 * v + (get_or l i 0 - 48) → more < 4294967296
+      → read_on♯ v (drop i l) ≡ read_on♯ more (drop (i + 1) l)
+  unfolding read_on♯
+  read_on-digit d more e h = rw (drop-cons l i 0 inside, d, ← e, le-leb more 4294967295 (omega arith), add-one i)
 
 -- past the end
-module _ (l : List ℕ) (at : ℕ) where
-  pub read_on-end : (v : ℕ) → length l ≤ at → read_on♯ v (drop at l) ≡ some (number v (drop at l))
-  unfolding read_on♯
-  read_on-end v h = rw (drop_of_length-le l h)
+pub read_on-end : (l : List ℕ) (i v : ℕ) → length l ≤ i → read_on♯ v (drop i l) ≡ some (number v [])
+unfolding read_on♯
+read_on-end l i v h = rw (drop_of_length-le l h)
 
-  pub at_end-end : {A : Type 0} (a : A) → length l ≤ at → at_end (drop at l) a ≡ some a
-  at_end-end a h = rw (drop_of_length-le l h)
+-- what follows the first byte, as the code takes it
+abbrev pub rest : List ℕ → List ℕ
+rest l = take (length l - 1) (drop 1 l)
 
-  pub at_end-more : {A : Type 0} (a : A) → at < length l → at_end (drop at l) a ≡ none
-  at_end-more a h = rw (drop-cons l at 0 h)
+rest-all : (l : List ℕ) → rest l ≡ drop 1 l
+rest-all l = take_all (length l - 1) (drop 1 l) (omega (arith, length-drop 1 l))
+
+module _ (l : List ℕ) where
+  -- a number, by its first byte
+  pub read_number-zero : get_or l 0 0 ≡ 48 → read_number♯ l ≡ some (number 0 (rest l))
+  unfolding read_number♯
+  read_number-zero h = rw (h, rest-all l)
+
+  pub read_number-digit : 49 ≤ get_or l 0 0 → get_or l 0 0 ≤ 57 → read_number♯ l ≡ read_on♯ (get_or l 0 0 - 48) (rest l)
+  unfolding read_number♯
+  read_number-digit low high =
+      rw (digit-test (get_or l 0 0) (omega arith, high), ne_eqb (get_or l 0 0) 48 (λ e. omega arith), rest-all l)
+
+  pub read_number-other : (get_or l 0 0 < 48) ⊎ (57 < get_or l 0 0) → read_number♯ l ≡ none
+  unfolding read_number♯
+  read_number-other (inl h) = rw (lt-leb 48 (get_or l 0 0) h)
+  read_number-other (inr h) = rw (le-leb 48 (get_or l 0 0) (omega arith), lt-leb (get_or l 0 0) 57 h)
+
+  -- a field, by its comma
+  pub read_field-comma : get_or l 0 0 ≡ 44 → read_field♯ l ≡ read_number♯ (rest l)
+  unfolding read_field♯
+  read_field-comma h = rw (h, rest-all l)
+
+  pub read_field-other : (get_or l 0 0 ≡ 44 → ⊥) → read_field♯ l ≡ none
+  unfolding read_field♯
+  read_field-other h = rw (ne_eqb (get_or l 0 0) 44 h)
+
+  -- a line, by its letter
+  pub read-insert : get_or l 0 0 ≡ 73 → read♯ l ≡ some_of insert_of (read_numbers♯ 4 (rest l))
+  unfolding read♯
+  read-insert h = rw (h, rest-all l)
+
+  pub read-strike : get_or l 0 0 ≡ 68 → read♯ l ≡ some_of strike_of (read_numbers♯ 3 (rest l))
+  unfolding read♯
+  read-strike h = rw (h, rest-all l)
+
+  pub read-count : get_or l 0 0 ≡ 67 → read♯ l ≡ some_of count_of (read_numbers♯ 4 (rest l))
+  unfolding read♯
+  read-count h = rw (h, rest-all l)
+
+  pub read-list : get_or l 0 0 ≡ 76 → read♯ l ≡ some_of list_of (read_numbers♯ 4 (rest l))
+  unfolding read♯
+  read-list h = rw (h, rest-all l)
+
+  pub read-other : (get_or l 0 0 ≡ 73 → ⊥) → (get_or l 0 0 ≡ 68 → ⊥) → (get_or l 0 0 ≡ 67 → ⊥) → (get_or l 0 0 ≡ 76 → ⊥)
+      → read♯ l ≡ none
+  unfolding read♯
+  read-other i d c k = rw (ne_eqb (get_or l 0 0) 73 i, ne_eqb (get_or l 0 0) 68 d, ne_eqb (get_or l 0 0) 67 c, ne_eqb (get_or l 0 0) 76 k)
+
+-- so many numbers, of which those before a place are read
+abbrev pub behind : List ℕ → Option (List ℕ) → Option (List ℕ)
+behind ns = some_of (λ more. ns ++ more)
+
+behind-snoc : (ns : List ℕ) (n : ℕ) (o : Option (List ℕ)) → behind (ns ++ n ∷ []) o ≡ behind ns (some_of (λ more. n ∷ more) o)
+behind-snoc ns n none = refl
+behind-snoc ns n (some more) = rw (append_snoc ns n more)
+
+left_more : (i k : ℕ) → i < k → k - i ≡ suc (k - (i + 1))
+left_more i k h = omega arith
+
+module _ (ns l : List ℕ) (i k : ℕ) (room : i < k) where
+  pub read_numbers-none : read_field♯ l ≡ none → behind (take i ns) (read_numbers♯ (k - i) l) ≡ none
+  unfolding read_numbers♯
+  read_numbers-none e = rw (left_more i k room, e)
+
+  pub read_numbers-more : (n : Number) → k ≡ length ns → read_field♯ l ≡ some n
+      → behind (take i ns) (read_numbers♯ (k - i) l) ≡ behind (take (i + 1) (set ns i n.value)) (read_numbers♯ (k - (i + 1)) n.rest)
+  unfolding read_numbers♯
+  read_numbers-more n all e =
+      rw (left_more i k room, e, take_more_set ns i n.value (omega arith), behind-snoc (take i ns) n.value (read_numbers♯ (k - (i + 1)) n.rest))
+
+module _ (ns l : List ℕ) (k : ℕ) (all : length ns ≡ k) where
+  all_read : behind (take k ns) (read_numbers♯ (k - k) l) ≡ behind ns (at_end l [])
+  unfolding read_numbers♯
+  all_read = let none_left : k - k ≡ 0 = omega arith in rw (none_left, take_all k ns (omega arith))
+
+  pub read_numbers-end : length l ≡ 0 → behind (take k ns) (read_numbers♯ (k - k) l) ≡ some ns
+  read_numbers-end e = all_read ∙ go l e
+    where
+      go : (l : List ℕ) → length l ≡ 0 → behind ns (at_end l []) ≡ some ns
+      go [] e = rw (append-nil ns)
+      go (b ∷ l) e = absurd (omega arith)
+
+  pub read_numbers-over : 0 < length l → behind (take k ns) (read_numbers♯ (k - k) l) ≡ none
+  read_numbers-over h = all_read ∙ go l h
+    where
+      go : (l : List ℕ) → 0 < length l → behind ns (at_end l []) ≡ none
+      go [] h = absurd (omega arith)
+      go (b ∷ l) h = refl

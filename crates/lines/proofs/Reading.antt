@@ -6,27 +6,30 @@ use mathlib.Core.Bool.{Bool, true, false}
 use mathlib.Core.List.{List, [], ◌∷◌, ◌++◌}
 use mathlib.Core.Option.{Option, none, some}
 use native.Mathlib.Omega.{arith}
+use Rattle.std.specs.Char.{is_ascii_digit}
 use lib.Dec.{leb, eqb}
-use lib.ListN.{get_or}
+use lib.ListN.{length, get_or}
 use lib.Seq.{append_snoc}
 use borrow.Author.Tests.{leb-true, le-leb, eqb-true, eqb-false, ne_eqb}
 use Rattle.model.specs.Laws.{All, nil, cons}
 use Rattle.model.proofs.Logic.{by_cases, and_left, and_right}
 use Rattle.lines.specs.Text.{digits, fields}
 use Rattle.lines.specs.Numerals.{Digit, Word}
-use Rattle.lines.specs.Commands.{Command, insert, strike, count, list, written, Words, Reads, command, not_one}
+use Rattle.lines.specs.Commands.{Command, insert, strike, count, list, letter, numbers, written, Words, Reads, command, not_one}
 use Rattle.lines.specs.Reading.{
   Number,
   number,
-  is_digit,
   read_on♯,
   read_number♯,
   read_field♯,
   and_then,
   at_end,
   some_of,
-  read_three♯,
-  read_four♯,
+  read_numbers♯,
+  insert_of,
+  strike_of,
+  count_of,
+  list_of,
   read♯,
 }
 use Rattle.lines.proofs.Digits.{digits-single, digits_more, digits-snoc, digits-rec}
@@ -34,12 +37,10 @@ use Rattle.lines.proofs.Numerals.{first-digit}
 
 -- ---- tests
 
-digit-of : (b : ℕ) → is_digit b ≡ true → Digit b
-unfolding is_digit
+digit-of : (b : ℕ) → is_ascii_digit b ≡ true → Digit b
 digit-of b e = (leb-true 48 b (and_left (leb 48 b) (leb b 57) e), leb-true b 57 (and_right (leb 48 b) (leb b 57) e))
 
-pub digit-test : (b : ℕ) → Digit b → is_digit b ≡ true
-unfolding is_digit
+pub digit-test : (b : ℕ) → Digit b → is_ascii_digit b ≡ true
 digit-test b d = rw (le-leb 48 b d.0, le-leb b 57 d.1)
 
 module _ {A : Type 0} where
@@ -62,7 +63,7 @@ unfolding read_on♯
 read_on-sound [] v n pos w e = let same = some_same e in rw (← same) (w, refl)
 read_on-sound (b ∷ l) v n pos w e =
     let more : ℕ = 10 * v + (b - 48) in
-    by_cases (is_digit b)
+    by_cases (is_ascii_digit b)
     (λ t.
     let d = digit-of b t in
     let ds = d.0 in
@@ -76,10 +77,10 @@ read_on-sound (b ∷ l) v n pos w e =
     (λ u. let same = some_same (rw u at e) in rw (← same) (w, refl))
 
 read_number-sound : (l : List ℕ) (n : Number) → read_number♯ l ≡ some n → Word n.value × (l ≡ digits n.value ++ n.rest)
-unfolding read_number♯ is_digit
+unfolding read_number♯
 read_number-sound [] n e = none-some e
 read_number-sound (b ∷ l) n e =
-    let digit = given-if (is_digit b) _ e in
+    let digit = given-if (is_ascii_digit b) _ e in
     let d = digit-of b digit.0 in
     let low = d.0 in
     let high = d.1 in
@@ -115,13 +116,6 @@ given-some : {A B : Type 0} {b : B} (f : A → B) (o : Option A) → some_of f o
 given-some f none e = none-some e
 given-some f (some a) e = (a, refl, some_same e)
 
--- numbers that were read, as a list
-abbrev listed3 : ℕ × ℕ × ℕ → List ℕ
-listed3 n = n.0 ∷ n.1 ∷ n.2 ∷ []
-
-abbrev listed4 : ℕ × ℕ × ℕ × ℕ → List ℕ
-listed4 n = n.0 ∷ n.1 ∷ n.2 ∷ n.3 ∷ []
-
 -- a field, and fields of which each number is a word
 pub data WrittenFields : List ℕ → List ℕ → Type 0 where
   last : {l : List ℕ} → l ≡ [] → WrittenFields l []
@@ -134,52 +128,55 @@ fields-sound {l} (next n e w) =
     let on = fields-sound w in
     (cons f.0 on.0, f.1 ∙ ap (λ (k : List ℕ). 44 ∷ digits n.value ++ k) on.1)
 
-read_three-sound : (l : List ℕ) (n : ℕ × ℕ × ℕ) → read_three♯ l ≡ some n → WrittenFields l (listed3 n)
-unfolding read_three♯
-read_three-sound l n e =
+read_numbers-sound : (n : ℕ) (l ns : List ℕ) → read_numbers♯ n l ≡ some ns → WrittenFields l ns × (length ns ≡ n)
+unfolding read_numbers♯
+read_numbers-sound zero l ns e = let end = given-end l [] e in rw (← end.1) (last end.0, refl)
+read_numbers-sound (suc n) l ns e =
     let a = given-then (read_field♯ l) _ e in
-    let b = given-then (read_field♯ a.0.rest) _ a.2 in
-    let c = given-then (read_field♯ b.0.rest) _ b.2 in
-    let end = given-end c.0.rest (a.0.value, b.0.value, c.0.value) c.2 in
-    rw (← end.1) (next a.0 a.1 (next b.0 b.1 (next c.0 c.1 (last end.0))))
+    let on = given-some _ (read_numbers♯ n a.0.rest) a.2 in
+    let s = read_numbers-sound n a.0.rest on.0 on.1 in
+    rw (← on.2) (next a.0 a.1 s.0, ap suc s.1)
 
-read_four-sound : (l : List ℕ) (n : ℕ × ℕ × ℕ × ℕ) → read_four♯ l ≡ some n → WrittenFields l (listed4 n)
-unfolding read_four♯
-read_four-sound l n e =
-    let a = given-then (read_field♯ l) _ e in
-    let on = given-some _ (read_three♯ a.0.rest) a.2 in
-    rw (← on.2) (next a.0 a.1 (read_three-sound a.0.rest on.0 on.1))
+-- lists that are as long as a command's numbers
+three : (ns : List ℕ) → length ns ≡ 3 → numbers (strike_of ns) ≡ ns
+three (a ∷ b ∷ c ∷ []) e = refl
+three _ e = absurd (omega arith)
+
+four : (ns : List ℕ) → length ns ≡ 4 → numbers (insert_of ns) ≡ ns
+four (a ∷ b ∷ c ∷ d ∷ []) e = refl
+four _ e = absurd (omega arith)
 
 -- a letter, and what was read after it
-module _ {A : Type 0} (f : A → Command) (o : Option A) (b : ℕ) (l : List ℕ) (c : Command) where
-  lettered : (code : ℕ) (ns : A → List ℕ) → ((a : A) → written (f a) ≡ code ∷ fields (ns a)) → ((a : A) → Words (f a) ≡ All Word (ns a))
-      → ((a : A) → o ≡ some a → WrittenFields l (ns a)) → eqb b code ≡ true → some_of f o ≡ some c → Words c × (b ∷ l ≡ written c)
-  lettered code ns text words sound t e =
-      let part = given-some f o e in
-      let a = part.0 in
-      let on = fields-sound (sound a part.1) in
+module _ (f : List ℕ → Command) (n : ℕ) (b : ℕ) (l : List ℕ) (c : Command) where
+  lettered : (code : ℕ) → ((ns : List ℕ) → letter (f ns) ≡ code) → ((ns : List ℕ) → length ns ≡ n → numbers (f ns) ≡ ns)
+      → eqb b code ≡ true → some_of f (read_numbers♯ n l) ≡ some c → Words c × (b ∷ l ≡ written c)
+  lettered code begins holds t e =
+      let part = given-some f (read_numbers♯ n l) e in
+      let ns = part.0 in
+      let s = read_numbers-sound n l ns part.1 in
+      let on = fields-sound s.0 in
       let same = eqb-true b code t in
-      rw (← part.2, words a, text a, same) (on.0, ap (λ (k : List ℕ). code ∷ k) on.1)
+      rw (← part.2, holds ns s.1, begins ns, same) (on.0, ap (λ (k : List ℕ). code ∷ k) on.1)
 
 pub read-sound : (l : List ℕ) (c : Command) → read♯ l ≡ some c → Words c × (l ≡ written c)
 unfolding read♯
 read-sound [] c e = none-some e
 read-sound (b ∷ l) c e =
     by_cases (eqb b 73)
-    (λ t. lettered _ (read_four♯ l) b l c 73 listed4 (λ n. refl) (λ n. refl) (read_four-sound l) t (rw t at e))
+    (λ t. lettered insert_of 4 b l c 73 (λ n. refl) four t (rw t at e))
     (λ u. by_cases (eqb b 68)
-    (λ t. lettered _ (read_three♯ l) b l c 68 listed3 (λ n. refl) (λ n. refl) (read_three-sound l) t (rw (u, t) at e))
+    (λ t. lettered strike_of 3 b l c 68 (λ n. refl) three t (rw (u, t) at e))
     (λ v. by_cases (eqb b 67)
-    (λ t. lettered _ (read_four♯ l) b l c 67 listed4 (λ n. refl) (λ n. refl) (read_four-sound l) t (rw (u, v, t) at e))
+    (λ t. lettered count_of 4 b l c 67 (λ n. refl) four t (rw (u, v, t) at e))
     (λ w. by_cases (eqb b 76)
-    (λ t. lettered _ (read_four♯ l) b l c 76 listed4 (λ n. refl) (λ n. refl) (read_four-sound l) t (rw (u, v, w, t) at e))
+    (λ t. lettered list_of 4 b l c 76 (λ n. refl) four t (rw (u, v, w, t) at e))
     (λ x. none-some (rw (u, v, w, x) at e)))))
 
 -- ---- what stands there is read
 
 -- a text that no digit begins
 abbrev Stops : List ℕ → Type 0
-Stops t = is_digit (get_or t 0 0) ≡ false
+Stops t = is_ascii_digit (get_or t 0 0) ≡ false
 
 pub read_on-stops : (v : ℕ) (t : List ℕ) → Stops t → read_on♯ v t ≡ some (number v t)
 unfolding read_on♯
@@ -204,7 +201,7 @@ read_number-on = digits-rec (λ w. 0 < w → Word w → (t : List ℕ) → read_
     (read_on-digit w t fits))
 
 read_number-complete : (w : ℕ) (t : List ℕ) → Word w → Stops t → read_number♯ (digits w ++ t) ≡ some (number w t)
-unfolding read_number♯ is_digit
+unfolding read_number♯
 read_number-complete zero t fits h = rw (digits-single 0 (omega arith))
 read_number-complete (suc w) t fits h = read_number-on (suc w) (omega arith) fits t ∙ read_on-stops (suc w) t h
 
@@ -213,30 +210,20 @@ unfolding read_field♯
 read_field-complete w t fits h = read_number-complete w t fits h
 
 fields-stop : (ns : List ℕ) → Stops (fields ns)
-unfolding is_digit
 fields-stop [] = refl
 fields-stop (n ∷ ns) = refl
 
-read_three-complete : (a b c : ℕ) → All Word (a ∷ b ∷ c ∷ []) → read_three♯ (fields (a ∷ b ∷ c ∷ [])) ≡ some (a, b, c)
-unfolding read_three♯
-read_three-complete a b c (cons ha (cons hb (cons hc nil))) =
-    rw (
-      read_field-complete a (fields (b ∷ c ∷ [])) ha (fields-stop (b ∷ c ∷ [])),
-      read_field-complete b (fields (c ∷ [])) hb (fields-stop (c ∷ [])),
-      read_field-complete c [] hc (fields-stop []),
-    )
-
-read_four-complete : (a b c d : ℕ) → All Word (a ∷ b ∷ c ∷ d ∷ []) → read_four♯ (fields (a ∷ b ∷ c ∷ d ∷ [])) ≡ some (a, b, c, d)
-unfolding read_four♯
-read_four-complete a b c d (cons h hs) =
-    rw (read_field-complete a (fields (b ∷ c ∷ d ∷ [])) h (fields-stop (b ∷ c ∷ d ∷ [])), read_three-complete b c d hs)
+read_numbers-complete : (ns : List ℕ) → All Word ns → read_numbers♯ (length ns) (fields ns) ≡ some ns
+unfolding read_numbers♯
+read_numbers-complete [] nil = refl
+read_numbers-complete (n ∷ ns) (cons h hs) = rw (read_field-complete n (fields ns) h (fields-stop ns), read_numbers-complete ns hs)
 
 pub read-complete : (c : Command) → Words c → read♯ (written c) ≡ some c
 unfolding read♯
-read-complete (insert m) w = rw (read_four-complete m.x m.y m.tag m.grade w)
-read-complete (strike x y tag) w = rw (read_three-complete x y tag w)
-read-complete (count b) w = rw (read_four-complete b.x1 b.x2 b.y1 b.y2 w)
-read-complete (list b) w = rw (read_four-complete b.x1 b.x2 b.y1 b.y2 w)
+read-complete (insert m) w = rw (read_numbers-complete (numbers (insert m)) w)
+read-complete (strike x y tag) w = rw (read_numbers-complete (numbers (strike x y tag)) w)
+read-complete (count b) w = rw (read_numbers-complete (numbers (count b)) w)
+read-complete (list b) w = rw (read_numbers-complete (numbers (list b)) w)
 
 -- so a line is accepted just when it has one of the four forms
 pub reads-line : (l : List ℕ) → Reads l (read♯ l)

@@ -1,35 +1,30 @@
 -- What the crate's values mean. Assumes nothing.
-use Rattle.std.specs.Prelude.{ℕ, List, drop}
+use Rattle.std.specs.Prelude.{ℕ, List, Option as Opt, Some, None}
+use Rattle.std.specs.Borrow.{Bor}
 use Rattle.std.proofs.Math.Option.{Option, none, some}
 use Rattle.geometry.specs.Values.{mark_value, box_value}
-use Rattle.lines.specs.declared.number.Field.{Field}
-use Rattle.lines.specs.declared.number.Field.TheVariants as field
-use Rattle.lines.specs.declared.command.Three.{Three}
-use Rattle.lines.specs.declared.command.Three.TheVariants as three
-use Rattle.lines.specs.declared.command.Four.{Four}
-use Rattle.lines.specs.declared.command.Four.TheVariants as four
-use Rattle.lines.specs.declared.command.Line.{Line}
-use Rattle.lines.specs.declared.command.Line.TheVariants as line
+use Rattle.lines.specs.declared.command.Command as declared
+use Rattle.lines.specs.declared.command.Command.TheVariants.{Insert, Strike, Count, List as Listing}
 use Rattle.lines.specs.Commands.{Command, insert, strike, count, list}
 use Rattle.lines.specs.Reading.{Number, number}
 
--- of a line: the number, and the rest of the line from the place on
-abbrev pub field_value : List ℕ → Field → Option Number
-field_value l (field.Number v at) = some (number v (drop at l))
-field_value l field.Nothing = none
+-- a number that was read, and what follows it
+abbrev pub number_value : Opt (ℕ × Bor (List ℕ)) → Option Number
+number_value None = none
+number_value (Some p) = some (number p.0 p.1.now)
 
-abbrev pub three_value : Three → Option (ℕ × ℕ × ℕ)
-three_value (three.Numbers a b c) = some (a, b, c)
-three_value three.Nothing = none
+abbrev pub numbers_value : Opt (List ℕ) → Option (List ℕ)
+numbers_value None = none
+numbers_value (Some ns) = some ns
 
-abbrev pub four_value : Four → Option (ℕ × ℕ × ℕ × ℕ)
-four_value (four.Numbers a b c d) = some (a, b, c, d)
-four_value four.Nothing = none
+-- a command
+abbrev pub command_value : declared.Command → Command
+command_value (Insert m) = insert (mark_value m)
+command_value (Strike x y tag) = strike x y tag
+command_value (Count b) = count (box_value b)
+command_value (Listing b) = list (box_value b)
 
 -- the command that a line was read as, or none
-abbrev pub line_of : Line → Option Command
-line_of (line.Insert m) = some (insert (mark_value m))
-line_of (line.Strike x y tag) = some (strike x y tag)
-line_of (line.Count b) = some (count (box_value b))
-line_of (line.List b) = some (list (box_value b))
-line_of line.Unknown = none
+abbrev pub line_of : Opt declared.Command → Option Command
+line_of None = none
+line_of (Some c) = some (command_value c)

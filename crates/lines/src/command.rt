@@ -1,103 +1,62 @@
 // A line as a command (document 01, "The planner and the line program").
-ghost use Rattle.std.specs.Prelude.{◌≡◌, drop};
+ghost use Rattle.std.specs.Prelude.{◌≡◌};
 ghost use Rattle.lines.specs.Commands.{Reads};
-ghost use Rattle.lines.specs.Reading.{read_three♯, read_four♯, read♯};
-ghost use Rattle.lines.specs.Values.{three_value, four_value, line_of};
+ghost use Rattle.lines.specs.Reading.{read_numbers♯, read♯};
+ghost use Rattle.lines.specs.Values.{numbers_value, line_of};
 
 use crate::number;
-use crate::number::Field;
 use geometry::{Box, Mark};
 
-// A command with its numbers, which may be any words; or a line that has none of the four forms, document 01's refusal 11.
+// A command with its numbers, which may be any words.
 #[derive(Clone, Copy)]
-pub enum Line {
+pub enum Command {
     Insert(Mark),
-    // x, y, tag
-    Strike(u32, u32, u32),
+    Strike { x: u32, y: u32, tag: u32 },
     Count(Box),
     List(Box),
-    Unknown,
 }
 
-// What the rest of a line holds: so many numbers, or anything else.
-#[derive(Clone, Copy)]
-enum Three {
-    Numbers(u32, u32, u32),
-    Nothing,
-}
-
-#[derive(Clone, Copy)]
-enum Four {
-    Numbers(u32, u32, u32, u32),
-    Nothing,
-}
-
-// Three numbers from a place on, and nothing after them.
-fn read_three(line: &[u8], at: usize) -> Three
-    ensures { three_value result ≡ read_three♯ (drop at line.now) }
+// So many numbers, a comma before each, and nothing after them.
+fn read_numbers<const N: usize>(line: &[u8]) -> Option<[u32; N]>
+    ensures { numbers_value result ≡ read_numbers♯ N line.now }
 {
-    let Field::Number(first, after_first) = number::read_field(line, at) else {
-        return Three::Nothing;
-    };
-    let Field::Number(second, after_second) = number::read_field(line, after_first) else {
-        return Three::Nothing;
-    };
-    let Field::Number(third, end) = number::read_field(line, after_second) else {
-        return Three::Nothing;
-    };
-    if end < line.len() {
-        return Three::Nothing;
+    let mut numbers = [0; N];
+    let mut left = line;
+    for number in numbers.iter_mut() {
+        let (read, after) = number::read_field(left)?;
+        *number = read;
+        left = after;
     }
-    Three::Numbers(first, second, third)
-}
-
-// Four numbers from a place on, and nothing after them.
-fn read_four(line: &[u8], at: usize) -> Four
-    ensures { four_value result ≡ read_four♯ (drop at line.now) }
-{
-    let Field::Number(first, next) = number::read_field(line, at) else {
-        return Four::Nothing;
-    };
-    let Three::Numbers(second, third, fourth) = read_three(line, next) else {
-        return Four::Nothing;
-    };
-    Four::Numbers(first, second, third, fourth)
+    if left.is_empty() { Some(numbers) } else { None }
 }
 
 // The command of a line.
-fn parse(line: &[u8]) -> Line
+fn parse(line: &[u8]) -> Option<Command>
     ensures { line_of result ≡ read♯ line.now }
 {
-    let letter = number::byte(line, 0);
-    if letter == b'I' {
-        let Four::Numbers(x, y, tag, grade) = read_four(line, 1) else {
-            return Line::Unknown;
-        };
-        return Line::Insert(Mark { x, y, tag, grade });
+    match line {
+        [b'I', rest @ ..] => {
+            let [x, y, tag, grade] = read_numbers::<4>(rest)?;
+            Some(Command::Insert(Mark { x, y, tag, grade }))
+        }
+        [b'D', rest @ ..] => {
+            let [x, y, tag] = read_numbers::<3>(rest)?;
+            Some(Command::Strike { x, y, tag })
+        }
+        [b'C', rest @ ..] => {
+            let [x1, x2, y1, y2] = read_numbers::<4>(rest)?;
+            Some(Command::Count(Box { x1, x2, y1, y2 }))
+        }
+        [b'L', rest @ ..] => {
+            let [x1, x2, y1, y2] = read_numbers::<4>(rest)?;
+            Some(Command::List(Box { x1, x2, y1, y2 }))
+        }
+        _ => None,
     }
-    if letter == b'D' {
-        let Three::Numbers(x, y, tag) = read_three(line, 1) else {
-            return Line::Unknown;
-        };
-        return Line::Strike(x, y, tag);
-    }
-    if letter == b'C' {
-        let Four::Numbers(x1, x2, y1, y2) = read_four(line, 1) else {
-            return Line::Unknown;
-        };
-        return Line::Count(Box { x1, x2, y1, y2 });
-    }
-    if letter == b'L' {
-        let Four::Numbers(x1, x2, y1, y2) = read_four(line, 1) else {
-            return Line::Unknown;
-        };
-        return Line::List(Box { x1, x2, y1, y2 });
-    }
-    Line::Unknown
 }
 
-// The command of which a line is the written form, without its line feed.
-pub fn read(line: &[u8]) -> Line
+// The command of which a line is the written form, without its line feed; none where it has none of the four forms, document 01's refusal 11.
+pub fn read(line: &[u8]) -> Option<Command>
     ensures { Reads line.now (line_of result) }
 {
     parse(line)

@@ -1,35 +1,61 @@
 // The input, byte by byte, gathered into lines (document 01, "The planner and the line program").
-ghost use Rattle.std.specs.Prelude.{◌≡◌, List, ℕ};
+ghost use Rattle.std.specs.Prelude.{◌≡◌, ◌≤◌, ◌↔◌, IsTrue, length, List, ℕ};
 ghost use Rattle.table.specs.After.{after};
-ghost use Rattle.lines.specs.Input.{gather, Gathered, TakenAs};
+ghost use Rattle.lines.specs.Input.{gather, longest_line, Gathered, TakenAs};
 ghost use Rattle.lines.specs.Values.{line_of};
 
-use crate::command::Line;
-use crate::{command, number};
+use crate::command;
+use crate::command::Command;
 
-// The most bytes that a line may have; a length of one more stands for any that is longer.
-pub const LONGEST: u32 = 48;
+// The most bytes that a line may have.
+const LONGEST: usize = 48;
 
-// Takes a byte into a line that has len; gives the length.
-pub fn take(line: &mut [u8], len: u32, byte: u8) -> u32
-    ensures { after result line.new ≡ gather len byte line.old }
-{
-    if LONGEST <= len {
-        return LONGEST + 1;
-    }
-    number::put_byte(line, len, byte)
+// The line that stands open, as far as it has come. A length of one more than the longest stands for any that is longer.
+#[derive(Clone, Copy)]
+pub struct OpenLine {
+    bytes: [u8; LONGEST],
+    len: usize,
 }
 
-// The command of a line that has been gathered.
-pub fn command(line: &[u8], len: u32) -> Line
-    ensures { (l : List ℕ) → Gathered line.now len l → TakenAs l (line_of result) }
-{
-    let n = len as usize;
-    if LONGEST < len {
-        return Line::Unknown;
+impl OpenLine {
+    pub fn new() -> OpenLine
+        ensures { (longest_line ≤ length result.bytes) × (result.len ≡ 0) }
+    {
+        OpenLine {
+            bytes: [0; LONGEST],
+            len: 0,
+        }
     }
-    if line.len() < n {
-        return Line::Unknown;
+
+    pub fn is_empty(&self) -> bool
+        ensures { IsTrue result ↔ (self.now.len ≡ 0) }
+    {
+        self.len == 0
     }
-    command::read(&line[0..n])
+
+    // The line has ended: the next begins.
+    pub fn clear(&mut self)
+        ensures { (self.new.bytes ≡ self.old.bytes) × (self.new.len ≡ 0) }
+    {
+        self.len = 0;
+    }
+
+    // Takes a byte.
+    pub fn push(&mut self, byte: u8)
+        ensures { after self.new.len self.new.bytes ≡ gather self.old.len byte self.old.bytes }
+    {
+        if self.len < LONGEST {
+            self.bytes[self.len] = byte;
+            self.len += 1;
+        } else {
+            self.len = LONGEST + 1;
+        }
+    }
+
+    // The command of the line, or none.
+    pub fn command(&self) -> Option<Command>
+        ensures { (l : List ℕ) → Gathered self.now.bytes self.now.len l → TakenAs l (line_of result) }
+    {
+        command::read(self.bytes.get(..self.len)?)
+    }
 }

@@ -1,73 +1,43 @@
 // Numbers in decimal: read off a line, and written into lent bytes.
-ghost use Rattle.std.specs.Prelude.{◌≡◌, [], ◌∷◌, ◌+◌, ◌<◌, length, get_or, drop};
+ghost use Rattle.std.specs.Prelude.{◌≡◌, [], ◌∷◌, ◌+◌, ◌<◌, length};
 ghost use Rattle.lines.specs.Text.{digits};
 ghost use Rattle.lines.specs.Reading.{read_on♯, read_number♯, read_field♯};
-ghost use Rattle.lines.specs.Values.{field_value};
+ghost use Rattle.lines.specs.Values.{number_value};
 ghost use Rattle.lines.specs.Writing.{Wrote};
 
-// What stands at a place of a line: a number and the place after it, or none.
-#[derive(Clone, Copy)]
-pub enum Field {
-    Number(u32, usize),
-    Nothing,
+// The digits that a line begins with, after others that make v; and what follows them.
+fn read_on(line: &[u8], v: u32) -> Option<(u32, &[u8])>
+    ensures { number_value result ≡ read_on♯ v line.now }
+{
+    let mut value = v;
+    for (i, b) in line.iter().enumerate() {
+        if !b.is_ascii_digit() {
+            return Some((value, &line[i..]));
+        }
+        value = value.checked_mul(10)?.checked_add(u32::from(*b - b'0'))?;
+    }
+    Some((value, &[]))
 }
 
-// The byte at a place; 0 past the end, which no form of a line has.
-pub fn byte(line: &[u8], at: usize) -> u8
-    ensures { result ≡ get_or line.now at 0 }
+// The number that a line begins with. Nothing is taken after a leading 0: a digit there is no end of the field, and so the line is turned away.
+fn read_number(line: &[u8]) -> Option<(u32, &[u8])>
+    ensures { number_value result ≡ read_number♯ line.now }
 {
-    if at < line.len() { line[at] } else { 0 }
-}
-
-// The digits from a place on, after others that make v.
-fn read_on(line: &[u8], from: usize, v: u32) -> Field
-    ensures { field_value line.now result ≡ read_on♯ v (drop from line.now) }
-{
-    let mut at = from;
-    let mut value = v as u64;
-    while at < line.len() {
-        let b = line[at];
-        if b < b'0' {
-            return Field::Number(value as u32, at);
-        }
-        if b'9' < b {
-            return Field::Number(value as u32, at);
-        }
-        let more = 10 * value + ((b - b'0') as u64);
-        if 4294967295 < more {
-            return Field::Nothing;
-        }
-        value = more;
-        at += 1;
+    match line {
+        [b'0', rest @ ..] => Some((0, rest)),
+        [b @ b'1'..=b'9', rest @ ..] => read_on(rest, u32::from(*b - b'0')),
+        _ => None,
     }
-    Field::Number(value as u32, at)
-}
-
-// The number at a place. Nothing is taken after a leading 0: a digit there is no end of the field, and so the line is turned away.
-fn read_number(line: &[u8], at: usize) -> Field
-    ensures { field_value line.now result ≡ read_number♯ (drop at line.now) }
-{
-    let b = byte(line, at);
-    if b < b'0' {
-        return Field::Nothing;
-    }
-    if b'9' < b {
-        return Field::Nothing;
-    }
-    if b == b'0' {
-        return Field::Number(0, at + 1);
-    }
-    read_on(line, at + 1, (b - b'0') as u32)
 }
 
 // A comma, and the number after it.
-pub fn read_field(line: &[u8], at: usize) -> Field
-    ensures { field_value line.now result ≡ read_field♯ (drop at line.now) }
+pub fn read_field(line: &[u8]) -> Option<(u32, &[u8])>
+    ensures { number_value result ≡ read_field♯ line.now }
 {
-    if byte(line, at) == b',' {
-        return read_number(line, at + 1);
+    match line {
+        [b',', rest @ ..] => read_number(rest),
+        _ => None,
     }
-    Field::Nothing
 }
 
 // Puts a byte; gives the next place.

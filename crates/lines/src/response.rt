@@ -4,7 +4,7 @@ ghost use Rattle.geometry.specs.Values.{mark_value};
 ghost use Rattle.table.specs.Marks.{list_marks};
 ghost use Rattle.lines.specs.Text.{comma, digits, fields};
 ghost use Rattle.lines.specs.Writing.{Wrote};
-ghost use Rattle.lines.specs.Responses.{answer_line, refusal_line, first_line, mark_line, mark_lines};
+ghost use Rattle.lines.specs.Responses.{answer_line, refusal_line, mark_line, mark_lines};
 
 use crate::number;
 use geometry::Mark;
@@ -25,16 +25,14 @@ fn put_fields(out: &mut [u8], at: u32, numbers: &[u32]) -> u32
     ensures { (result ≤ at + 11 * length numbers.now) × Wrote out.old at (fields numbers.now) result out.new }
 {
     let mut next = at;
-    let mut i = 0;
-    while i < numbers.len() {
-        next = put_field(out, next, numbers[i]);
-        i += 1;
+    for n in numbers {
+        next = put_field(out, next, *n);
     }
     next
 }
 
 // A letter and its figures, at most four, as `I,live,rebuilt`: 46 bytes at the most.
-fn put_figures(out: &mut [u8], letter: u8, figures: &[u32]) -> u32
+pub fn put_figures(out: &mut [u8], letter: u8, figures: &[u32]) -> u32
     requires { length figures.now ≤ 4 }
     ensures { (result ≤ 46) × Wrote out.old 0 (answer_line letter figures.now) result out.new }
 {
@@ -48,17 +46,6 @@ pub fn put_refusal(out: &mut [u8], number: u32) -> u32
     ensures { (result ≤ 46) × Wrote out.old 0 (refusal_line number) result out.new }
 {
     put_figures(out, b'R', &[number])
-}
-
-// The first line of a response: its figures, or the number of its refusal.
-pub fn put_first(out: &mut [u8], letter: u8, number: u32, figures: &[u32]) -> u32
-    requires { length figures.now ≤ 4 }
-    ensures { (result ≤ 46) × Wrote out.old 0 (first_line letter number figures.now) result out.new }
-{
-    if number == 0 {
-        return put_figures(out, letter, figures);
-    }
-    put_refusal(out, number)
 }
 
 // `x,y,tag,grade`, which with its line feed has at most 44 bytes.
@@ -77,11 +64,9 @@ pub fn put_marks(out: &mut [u8], at: u32, list: &[u32], k: u32) -> u32
     ensures { (result ≤ at + 44 * k) × Wrote out.old at (mark_lines (list_marks list.now 0 k)) result out.new }
 {
     let mut next = at;
-    let mut i = 0;
-    while i < k {
+    for i in 0..k {
         let m = slots::listed(list, i);
         next = put_mark(out, next, m);
-        i += 1;
     }
     next
 }

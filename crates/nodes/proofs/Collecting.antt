@@ -3,6 +3,7 @@ use Prim.Native.Nat.{ℕ, zero, suc, ◌+◌, ◌-◌, ◌*◌, ◌/◌, ◌%◌
 use mathlib.Core.Path.{◌≡◌, refl}
 use mathlib.Core.Bool.{true}
 use mathlib.Core.List.{List, ◌++◌}
+use Rattle.std.specs.Prelude.{Ok}
 use native.Mathlib.Omega.{arith}
 use lib.Dec.{eqb}
 use lib.ListN.{length, length-append}
@@ -33,7 +34,7 @@ module _ {I : Type 0} (A : Axis Mark Box) (f : ℕ → Mark) (place : ℕ → �
       → Held A f place C xs t
       → depth t < fuel → taken + weight t ≤ C
       → collect♯ fuel place C but w (number t) taken xs
-      ≡ after (taken + length (without but (marks t))) (sets xs (run_place C taken) (without but (marks t)))
+      ≡ after (Ok (taken + length (without but (marks t)))) (sets xs (run_place C taken) (without but (marks t)))
   unfolding collect♯ collect_at collect_leaf collect_inner collect_both collect_parts
   collect-holds but zero t w taken xs e g h d k = absurd (omega arith)
   collect-holds but (suc n) (leaf s) w taken xs e g h d k =

@@ -3,6 +3,7 @@
 pub mod Weights
 pub mod Arms
 pub mod Ways
+pub mod Trees
 pub mod Values
 pub mod Holds
 pub mod Count

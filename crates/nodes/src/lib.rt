@@ -4,5 +4,7 @@
 pub mod arm;
 mod collect;
 pub mod primary;
+pub mod record;
 pub mod secondary;
+pub mod tree;
 pub mod weights;

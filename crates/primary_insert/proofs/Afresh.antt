@@ -28,7 +28,7 @@ use Rattle.secondary_update.proofs.Inserting.{insert-depth}
 use Rattle.primary_build.specs.Build.{Freshly, main_rebuild♯}
 use Rattle.nodes.proofs.Collecting.{every-slot}
 use Rattle.primary_build.proofs.Building.{main-rebuild-holds}
-use Rattle.primary_insert.specs.Insert.{put_rebuilt, rebuilt_at, afresh_once, main_afresh♯}
+use Rattle.primary_insert.specs.Insert.{main_afresh♯}
 use Rattle.primary_insert.proofs.Way.{put_two}
 use Rattle.primary_insert.proofs.Ready.{TwoReady, X, R, grow, mend, Grown, ready-room, main-grows}
 
@@ -71,7 +71,6 @@ module _ {f : ℕ → Mark} {C s : ℕ} (small : C ≤ 65536) (in_c : s < C) whe
           (put-frame.long ∙ k.long) fits
 
       afresh-words : main_afresh♯ C (f s) s (level_place C d) at xs ≡ after (weight (grow f s t)) (put_arm rebuilding.words at rebuilding.out.arm)
-      unfolding main_afresh♯ afresh_once rebuilt_at put_rebuilt
       afresh-words =
           let e : rebuilding.out.arm.weight ≡ weight fresh = ap (λ a. a.weight) fresh-leaves.is in
           rw (

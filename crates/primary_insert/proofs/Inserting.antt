@@ -41,8 +41,8 @@ use Rattle.twofold_layout.proofs.Rules.{rules-left, rules-right}
 use Rattle.secondary_update.specs.Insert.{auxiliary_insert♯}
 use Rattle.secondary_update.proofs.Inserting.{insert-times, insert-weight, insert-least, insert-names}
 use Rattle.secondary_update.proofs.Inserting.{rebuilt-weight, grown-arm, leaf-held, grown-within}
-use Rattle.primary_insert.specs.Insert.{main_leaf♯, main_afresh♯, grow♯, MainInsertion, insert_on, insert_beneath♯, insert_root, main_insert♯}
-use Rattle.primary_insert.specs.Insert.{main_insert_child, main_insert_way, main_insert_arm, main_insert_node}
+use Rattle.primary_insert.specs.Insert.{main_leaf♯, main_afresh♯, MainInsertion, insert_beneath♯, main_insert♯}
+use Rattle.primary_insert.specs.Insert.{main_insert_child, main_insert_node}
 use Rattle.twofold_layout.proofs.Beneath.{beneath-record, beneath-two}
 use Rattle.primary_insert.proofs.Way.{arm-kept, AuxiliaryGrown, auxiliary-grown, two-way-left, two-way-right}
 use Rattle.primary_insert.proofs.Ready.{TwoReady, X, R, grow, mend, Grown, by_x, ready-room, ready-new, ready-within, ready-once}
@@ -216,7 +216,7 @@ module _ (f : ℕ → Mark) (C s : ℕ) (small : C ≤ 65536) (in_c : s < C) whe
         (arm_of along_x f (node i l r)) xs
 
     insert_beneath-node : main_insert_node rec C (f s) s (level_place C d) at xs ≡ Onward (below_x (f s) (f (least r)))
-    unfolding main_insert_node main_insert_arm main_insert_way way_at
+    unfolding way_at
     insert_beneath-node =
         let odd : ((2 * least r + 1) % 2 ≡ 0 → ⊥) = omega arith in
         let half : (2 * least r + 1) / 2 ≡ least r = omega arith in
@@ -235,19 +235,19 @@ module _ (f : ℕ → Mark) (C s : ℕ) (small : C ≤ 65536) (in_c : s < C) whe
         )
 
     afresh-left : evenly (grow f s l) r ≡ false → Onward true ≡ main_afresh♯ C (f s) s (level_place C d) at xs
-    unfolding main_insert_child way_of
+    unfolding way_of
     afresh-left u =
         rw (unbalances-uneven (weight l) (weight r) (weight (grow f s l)) k.rules.balanced.0 (insert-weight (X f) (R f) s l) u)
 
     afresh-right : evenly l (grow f s r) ≡ false → Onward false ≡ main_afresh♯ C (f s) s (level_place C d) at xs
-    unfolding main_insert_child way_of
+    unfolding way_of
     afresh-right u =
         let uneven = balanced-swap (weight (grow f s r)) (weight l) ∙ u in
         rw (unbalances-uneven (weight r) (weight l) (weight (grow f s r)) (omega (arith, k.rules.balanced.1)) (insert-weight (X f) (R f) s r) uneven)
 
     module _ (low : d < D C) where
       way-left : evenly (grow f s l) r ≡ true → Onward true ≡ rec (level_place C (suc d)) (main_place (least r)) (handed i l r k low).words
-      unfolding main_insert_child way_of child_at grow♯ insert_on
+      unfolding way_of child_at
       way-left t =
           rw (
             unbalances-even (weight l) (weight r) (weight (grow f s l)) (insert-weight (X f) (R f) s l) t,
@@ -256,7 +256,7 @@ module _ (f : ℕ → Mark) (C s : ℕ) (small : C ≤ 65536) (in_c : s < C) whe
           )
 
       way-right : evenly l (grow f s r) ≡ true → Onward false ≡ rec (level_place C (suc d)) (main_place (least r) + arm_width) (handed i l r k low).words
-      unfolding main_insert_child way_of child_at grow♯ insert_on
+      unfolding way_of child_at
       way-right t =
           rw (
             unbalances-even (weight r) (weight l) (weight (grow f s r)) (insert-weight (X f) (R f) s r) (balanced-swap (weight (grow f s r)) (weight l) ∙ t),
@@ -267,7 +267,6 @@ module _ (f : ℕ → Mark) (C s : ℕ) (small : C ≤ 65536) (in_c : s < C) whe
   insert_beneath-leaf : {d at : ℕ} {xs : List ℕ} (q : ℕ) (rec : MainInsertion) → TwoReady f C s d at xs (leaf q)
       → main_insert_node rec C (f s) s (level_place C d) at xs ≡ main_leaf♯ C (f s) s (level_place C d) at
       (arm_of {I = SlotAuxiliary} along_x f (leaf q)) xs
-  unfolding main_insert_node main_insert_arm
   insert_beneath-leaf q rec k =
       let even : 2 * q % 2 ≡ 0 = omega arith in
       let half : 2 * q / 2 ≡ q = omega arith in
@@ -351,7 +350,7 @@ module _ (f : ℕ → Mark) (C s : ℕ) (small : C ≤ 65536) (in_c : s < C) (xs
       → let p = main_insert♯ C (f s) s xs in
       TwoLeavesAt f C 0 root_place xs p.words (rebalance (slot_axis f along_x) (slot_auxiliary f) (insert_leaf (slot_axis f along_x) (slot_auxiliary f) s t))
       × (p.out ≡ rebuilt (insert_leaf (slot_axis f along_x) (slot_auxiliary f) s t)) × (p.out ≡ damaged → ⊥)
-  unfolding main_insert♯ insert_root
+  unfolding main_insert♯
   main_insert-holds t is h rules new free =
       let ready : TwoReady f C s 0 root_place xs t = record {
         long = long;
@@ -371,7 +370,7 @@ module _ (f : ℕ → Mark) (C s : ℕ) (small : C ≤ 65536) (in_c : s < C) (xs
   -- the first slot is a lone leaf
   pub main_insert-first : (arm_at xs root_place).weight ≡ 0
       → let p = main_insert♯ C (f s) s xs in TwoLeavesAt f C 0 root_place xs p.words (leaf s) × (p.out ≡ 0)
-  unfolding main_insert♯ insert_root
+  unfolding main_insert♯
   main_insert-first e =
       let room : root_place + arm_width ≤ length xs = omega (arith, (two-main small long).run_room) in
       let a : Arm = arm_of {I = SlotAuxiliary} along_x f (leaf s) in

@@ -29,7 +29,8 @@ use Rattle.twofold_layout.proofs.Over.{TwoLeavesAt, two-main}
 use Rattle.secondary_update.specs.Insert.{split♯, insert_node, insert_arm, insert♯, auxiliary_insert♯}
 use Rattle.secondary_update.proofs.Inserting.{leaf-held}
 use Rattle.secondary_update.proofs.Auxiliaries.{carried}
-use Rattle.primary_insert.specs.Insert.{split_name, pair_auxiliary, main_leaf♯}
+use Rattle.secondary_update.specs.Insert.{split_name}
+use Rattle.primary_insert.specs.Insert.{pair_auxiliary, main_leaf♯}
 use Rattle.twofold_layout.proofs.Beneath.{beneath-mark, beneath-record}
 use Rattle.primary_insert.proofs.Way.{AuxiliaryGrown, auxiliary-grown}
 use Rattle.primary_insert.proofs.Ready.{TwoReady, R, grow, Grown, main-grows}
@@ -120,7 +121,6 @@ module _ {f : ℕ → Mark} {C s : ℕ} (small : C ≤ 65536) (in_c : s < C) whe
     pair-figure = pair-grown.figure ∙ by_cases (along_y.below (f s) (f q)) (λ e. rw e) (λ e. rw e)
 
     pair-words : pair_auxiliary C (f s) s (level_place C d) b q ys ≡ paired
-    unfolding pair_auxiliary
     pair-words = rw (pair-marked q has-leaf, leaf_arm-of f q (f q).y (omega (arith, pair-within q has-leaf)))
 
     pair-holds : Grown f C d at xs (pair_auxiliary C (f s) s (level_place C d) b q ys) pair
@@ -137,7 +137,7 @@ module _ {f : ℕ → Mark} {C s : ℕ} (small : C ≤ 65536) (in_c : s < C) whe
 
   pub leaf-grown : {d at : ℕ} {xs : List ℕ} (q : ℕ) → TwoReady f C s d at xs (leaf q) → d < D C
       → Grown f C d at xs (main_leaf♯ C (f s) s (level_place C d) at (arm_of {I = SlotAuxiliary} along_x f (leaf q)) xs) (grow f s (leaf q))
-  unfolding main_leaf♯ split_name
+  unfolding split_name
   leaf-grown {d = d} {at = at} {xs = xs} q k low =
       let half : 2 * q / 2 ≡ q = omega arith in
       let h : LeavesAt along_x f main_place C at xs (split♯ along_x main_place (f s) s at (arm_of {I = SlotAuxiliary} along_x f (leaf q)) xs)

@@ -1,8 +1,8 @@
 -- The mirror of the insertion into the two-fold tree. Assumes nothing.
 use Rattle.std.specs.Prelude.{ℕ, zero, suc, ◌+◌, ◌-◌, ◌/◌, ◌%◌, ◌≤◌, ◌<◌, ◌^◌}
-use Rattle.std.specs.Prelude.{◌≡◌, refl, true, false, not, List, leb, eqb, length, if◌then◌else◌}
+use Rattle.std.specs.Prelude.{◌≡◌, true, false, not, List, leb, eqb, length, if◌then◌else◌}
 use Rattle.std.proofs.Common.{arith}
-use Rattle.model.specs.Sheet.{Mark, below_x, along_x}
+use Rattle.model.specs.Sheet.{Mark, along_x}
 use Rattle.table.specs.Layout.{arm_width, runs_end, main_place, auxiliary_place, root_place}
 use Rattle.table.specs.Limits.{deepest, damaged, no_slot}
 use Rattle.table.specs.Marks.{slot_mark}
@@ -10,7 +10,7 @@ use Rattle.nodes.specs.Arms.{Arm, Way, leaf_arm, grown_arm, arm_at, put_arm, chi
 use Rattle.nodes.specs.Ways.{way_at}
 use Rattle.table.specs.After.{After, after}
 use Rattle.twofold_layout.specs.Levels.{top_level, deeper}
-use Rattle.secondary_update.specs.Insert.{split♯, insert♯, auxiliary_insert♯}
+use Rattle.secondary_update.specs.Insert.{split♯, split_name, insert♯, auxiliary_insert♯}
 use Rattle.nodes.specs.Weights.{unbalances}
 use Rattle.primary_build.specs.Build.{Freshly, main_rebuild♯}
 
@@ -18,29 +18,25 @@ use Rattle.primary_build.specs.Build.{Freshly, main_rebuild♯}
 abbrev pub Stands : ℕ → ℕ → ℕ → List ℕ → Type 0
 Stands capacity s at xs = (s < capacity) × (at < 2 ^ 40) × (at + arm_width ≤ length xs) × (runs_end capacity ≤ length xs)
 
--- the name of the node of a leaf and a mark
-unfoldable pub split_name : Mark → ℕ → Arm → List ℕ → ℕ
-split_name m s q xs = if below_x m (slot_mark xs (q.node / 2)) then q.node / 2 else s
-
 -- the auxiliary tree of that node: the leaf's slot k alone, and then the mark's slot too
-unfoldable pub pair_auxiliary : ℕ → Mark → ℕ → ℕ → ℕ → ℕ → List ℕ → After ℕ
+abbrev pub pair_auxiliary : ℕ → Mark → ℕ → ℕ → ℕ → ℕ → List ℕ → After ℕ
 pair_auxiliary capacity m s base name k xs =
     auxiliary_insert♯ base capacity m s name (put_arm xs (auxiliary_place name) (leaf_arm k (slot_mark xs k).y (slot_mark xs k).grade))
 
-unfoldable pub main_leaf♯ : ℕ → Mark → ℕ → ℕ → ℕ → Arm → List ℕ → After ℕ
-main_leaf♯ capacity m s base at q xs = pair_auxiliary capacity m s base (split_name m s q xs) (q.node / 2) (split♯ along_x main_place m s at q xs)
+abbrev pub main_leaf♯ : ℕ → Mark → ℕ → ℕ → ℕ → Arm → List ℕ → After ℕ
+main_leaf♯ capacity m s base at q xs = pair_auxiliary capacity m s base (split_name along_x m s q xs) (q.node / 2) (split♯ along_x main_place m s at q xs)
 
-unfoldable pub put_rebuilt : ℕ → ℕ → After Freshly → After ℕ
+abbrev pub put_rebuilt : ℕ → ℕ → After Freshly → After ℕ
 put_rebuilt at w p = if eqb p.out.arm.weight 0 then after damaged p.words else after w (put_arm p.words at p.out.arm)
 
-unfoldable pub rebuilt_at : ℕ → ℕ → ℕ → Arm → List ℕ → After ℕ
+abbrev pub rebuilt_at : ℕ → ℕ → ℕ → Arm → List ℕ → After ℕ
 rebuilt_at capacity base at a xs = put_rebuilt at a.weight (main_rebuild♯ capacity base no_slot a.weight a.weight a.node xs)
 
 -- once the mark has been put into the main tree alone
-unfoldable pub afresh_once : ℕ → ℕ → ℕ → After ℕ → After ℕ
+abbrev pub afresh_once : ℕ → ℕ → ℕ → After ℕ → After ℕ
 afresh_once capacity base at p = if eqb p.out damaged then after damaged p.words else rebuilt_at capacity base at (arm_at p.words at) p.words
 
-unfoldable pub main_afresh♯ : ℕ → Mark → ℕ → ℕ → ℕ → List ℕ → After ℕ
+abbrev pub main_afresh♯ : ℕ → Mark → ℕ → ℕ → ℕ → List ℕ → After ℕ
 main_afresh♯ capacity m s base at xs = afresh_once capacity base at (insert♯ along_x deepest capacity main_place m s false at xs)
 
 -- where the arm's level begins, where the arm stands, and the words
@@ -48,50 +44,51 @@ abbrev pub MainInsertion : Type 0
 MainInsertion = ℕ → ℕ → List ℕ → After ℕ
 
 -- the mark goes into the arm that leads to a node on its way, and into the node's auxiliary tree
-unfoldable pub grow♯ : ℕ → Mark → ℕ → ℕ → ℕ → ℕ → Arm → List ℕ → After ℕ
+abbrev pub grow♯ : ℕ → Mark → ℕ → ℕ → ℕ → ℕ → Arm → List ℕ → After ℕ
 grow♯ capacity m s base name at a xs = auxiliary_insert♯ base capacity m s name (put_arm xs at (grown_arm a m.x m.grade))
 
 -- on to the child, where the auxiliary tree was not damaged
-unfoldable pub insert_on : MainInsertion → ℕ → ℕ → After ℕ → After ℕ
+abbrev pub insert_on : MainInsertion → ℕ → ℕ → After ℕ → After ℕ
 insert_on rec base at p = if eqb p.out damaged then after damaged p.words else rec base at p.words
 
-unfoldable pub main_insert_child : MainInsertion → ℕ → Mark → ℕ → ℕ → ℕ → Way → ℕ → Arm → List ℕ → After ℕ
+abbrev pub main_insert_child : MainInsertion → ℕ → Mark → ℕ → ℕ → ℕ → Way → ℕ → Arm → List ℕ → After ℕ
 main_insert_child rec capacity m s base name v at a xs =
     if unbalances true v.child.weight v.sibling.weight then main_afresh♯ capacity m s base at xs
     else insert_on rec (deeper base capacity) (child_at (main_place name) v.left) (grow♯ capacity m s base name at a xs)
 
 -- children whose weights are not the node's are damage
-unfoldable pub main_insert_way : MainInsertion → ℕ → Mark → ℕ → ℕ → ℕ → Way → ℕ → Arm → List ℕ → After ℕ
+abbrev pub main_insert_way : MainInsertion → ℕ → Mark → ℕ → ℕ → ℕ → Way → ℕ → Arm → List ℕ → After ℕ
 main_insert_way rec capacity m s base name v at a xs =
     if not (eqb (v.child.weight + v.sibling.weight) a.weight) then after damaged xs
     else main_insert_child rec capacity m s base name v at a xs
 
 -- a node of no slot is damage
-unfoldable pub main_insert_arm : MainInsertion → ℕ → Mark → ℕ → ℕ → ℕ → Arm → List ℕ → After ℕ
+abbrev pub main_insert_arm : MainInsertion → ℕ → Mark → ℕ → ℕ → ℕ → Arm → List ℕ → After ℕ
 main_insert_arm rec capacity m s base at a xs =
     if leb capacity (a.node / 2) then after damaged xs
     else (if eqb (a.node % 2) 0 then main_leaf♯ capacity m s base at a xs
     else main_insert_way rec capacity m s base (a.node / 2) (way_at along_x main_place m (a.node / 2) xs) at a xs)
 
-unfoldable pub main_insert_node : MainInsertion → ℕ → Mark → ℕ → MainInsertion
+abbrev pub main_insert_node : MainInsertion → ℕ → Mark → ℕ → MainInsertion
 main_insert_node rec capacity m s base at xs = main_insert_arm rec capacity m s base at (arm_at xs at) xs
 
 unfoldable pub insert_beneath♯ : ℕ → ℕ → Mark → ℕ → MainInsertion
 insert_beneath♯ zero capacity m s base at xs = after damaged xs
 insert_beneath♯ (suc f) capacity m s base at xs = main_insert_node (insert_beneath♯ f capacity m s) capacity m s base at xs
 
+-- the insertion from a turn of the walk on
+pub insert_beneath♯-turn : (turn : ℕ) → turn < deepest → (capacity : ℕ) (m : Mark) (s base at : ℕ) (xs : List ℕ)
+    → insert_beneath♯ (deepest - turn) capacity m s base at xs
+    ≡ main_insert_node (insert_beneath♯ (deepest - (turn + 1)) capacity m s) capacity m s base at xs
+unfolding insert_beneath♯
+insert_beneath♯-turn turn h capacity m s base at xs = let e : deepest - turn ≡ suc (deepest - (turn + 1)) = omega arith in rw e
+
 pub insert_beneath♯-zero : (f : ℕ) → f ≡ 0 → (capacity : ℕ) (m : Mark) (s base at : ℕ) (xs : List ℕ)
     → insert_beneath♯ f capacity m s base at xs ≡ after damaged xs
 unfolding insert_beneath♯
 insert_beneath♯-zero f e capacity m s base at xs = rw e
 
-pub insert_beneath♯-suc : (f : ℕ) → (f ≡ 0 → ⊥) → (capacity : ℕ) (m : Mark) (s base at : ℕ) (xs : List ℕ)
-    → insert_beneath♯ f capacity m s base at xs ≡ main_insert_node (insert_beneath♯ (f - 1) capacity m s) capacity m s base at xs
-unfolding insert_beneath♯
-insert_beneath♯-suc zero h capacity m s base at xs = absurd (h refl)
-insert_beneath♯-suc (suc f) h capacity m s base at xs = let e : suc f - 1 ≡ f = omega arith in rw e
-
-unfoldable pub insert_root : Mark → ℕ → ℕ → Arm → List ℕ → After ℕ
+abbrev pub insert_root : Mark → ℕ → ℕ → Arm → List ℕ → After ℕ
 insert_root m s capacity a xs =
     if eqb a.weight 0 then after 0 (put_arm xs root_place (leaf_arm s m.x m.grade))
     else insert_beneath♯ deepest capacity m s (top_level capacity) root_place xs

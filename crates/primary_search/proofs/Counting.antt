@@ -38,7 +38,8 @@ use Rattle.twofold_layout.specs.Rules.{SlotAuxiliary, SlotMain, slot_auxiliary, 
 use Rattle.twofold_layout.specs.TwoFold.{TwoFold}
 use Rattle.nodes.proofs.Searching.{clear-past, found-clear, Arrives, Laid, count-adds, added-both, added-swap, added-arrive}
 use Rattle.secondary_search.proofs.Counting.{Graded, searched, count-by-y, count-holds}
-use Rattle.primary_search.specs.Count.{level_records, leaf♯, hand_over♯, handed♯, main_kind, main_search♯, count_root, main_count♯}
+use Rattle.secondary_search.specs.Search.{kind}
+use Rattle.primary_search.specs.Count.{leaf♯, hand_over♯, handed♯, main, main_search♯, count_root, main_count♯}
 use Rattle.twofold_layout.proofs.Over.{deeper-level, top-level}
 use Rattle.twofold_layout.proofs.Stands.{rules-found}
 use Rattle.primary_search.proofs.Ready.{ReadyNode, Ready, inside-settled, ready}
@@ -48,17 +49,11 @@ unfolding main_count♯ count_root
 count_none xs b e = rw (eq-eqb (arm_at xs root_place).weight 0 e)
 
 -- what is searched by the y side alone is what the box asks for
-pub hand-over-by-y : (xs : List ℕ) (C : ℕ) (b : Box) (base end name tally r : ℕ) → end ≡ level_end base C
-    → r ≡ hand_over♯ xs (level_records base end) (box 0 0 b.y1 b.y2) base name tally
+pub hand-over-by-y : (xs : List ℕ) (C : ℕ) (b : Box) (base name tally r : ℕ)
+    → r ≡ hand_over♯ xs C (box 0 0 b.y1 b.y2) base name tally
     → r ≡ hand_over♯ xs C b base name tally
 unfolding hand_over♯
-hand-over-by-y xs C b base end name tally r h e =
-    let n : level_records base end ≡ C = omega (arith, h) in
-    e ∙ rw (n, count-by-y xs C b base (arm_at xs (auxiliary_place name)) (arrived tally 0 0))
-
--- a level has the records that it was made for
-pub level-whole : (base C end : ℕ) → end ≡ level_end base C → end ≡ level_end base (level_records base end)
-level-whole base C end h = omega (arith, h)
+hand-over-by-y xs C b base name tally r e = e ∙ rw (count-by-y xs C b base (arm_at xs (auxiliary_place name)) (arrived tally 0 0))
 
 -- every grade in a main tree is at most 100
 abbrev pub GradedMain : (ℕ → Mark) → SlotMain → Type 0
@@ -74,10 +69,10 @@ module _ (f : ℕ → Mark) (b : Box) where
     ordered = slot_axis-laws f sheet along_x along_x-laws
 
     abbrev ArrivesHere : ℕ → SlotMain → Type 0
-    ArrivesHere = Arrives (main_kind xs C b) along_x b f (slot_auxiliary f) ordered C xs (added f) (added-both f) (added-swap f) (added-arrive f)
+    ArrivesHere = Arrives (kind main C xs b) along_x b f (slot_auxiliary f) ordered C xs (added f) (added-both f) (added-swap f) (added-arrive f)
 
     abbrev LaidHere : ℕ → SlotMain → Type 0
-    LaidHere = Laid (main_kind xs C b) along_x b f (slot_auxiliary f) ordered C xs (added f) (added-both f) (added-swap f) (added-arrive f)
+    LaidHere = Laid (kind main C xs b) along_x b f (slot_auxiliary f) ordered C xs (added f) (added-both f) (added-swap f) (added-arrive f)
 
     -- the arrival at a leaf, at a node whose cell is inside, and at a tree that is clear
     leaf-adds : (s : ℕ) → slot_mark xs s ≡ f s → (f s).grade ≤ 100 → (tally : ℕ)
@@ -98,7 +93,7 @@ module _ (f : ℕ → Mark) (b : Box) where
         → arrived tally 0 0 ≡ added f (searched_main t) tally
     unfolding arrived added
     skipped t s e tally =
-        rw (found-clear (main_kind xs C b) along_x b f (slot_auxiliary f) ordered C xs (added f) (added-both f) (added-swap f) (added-arrive f) t s e)
+        rw (found-clear (kind main C xs b) along_x b f (slot_auxiliary f) ordered C xs (added f) (added-both f) (added-swap f) (added-arrive f) t s e)
 
     -- an auxiliary tree has the grades of the marks beneath its node
     graded-auxiliary : (d : ℕ) (i : SlotAuxiliary) (l r : SlotMain) (h : ReadyNode f C xs d i l r) → GradedMain f (node i l r)
@@ -166,7 +161,7 @@ module _ (f : ℕ → Mark) (b : Box) where
           let odd : ((2 * least r + 1) % 2 ≡ 0 → ⊥) = omega arith in
           let half : (2 * least r + 1) / 2 ≡ least r = omega arith in
           rw (half, lt-leb C (least r) h.0.within, ne_eqb ((2 * least r + 1) % 2) 0 odd)
-          (count-adds (main_kind xs C b) along_x b f (slot_auxiliary f) ordered C xs (added f) (added-both f) (added-swap f) (added-arrive f)
+          (count-adds (kind main C xs b) along_x b f (slot_auxiliary f) ordered C xs (added f) (added-both f) (added-swap f) (added-arrive f)
           (along_x-straight b fine) (level_place C d) (node i l r) (omega arith) (laid d (node i l r) e h g o) o 0)
 
 -- figures of a sound table fill their places in the tally

@@ -1,6 +1,7 @@
--- On words that hold a main tree, the mirror of the finding gives the slot of a mark that stands there, and `absent` for one that does not. Assumes
+-- On words that hold a main tree, the mirror of the finding gives the slot of a mark that stands there, and none for one that does not. Assumes
 -- nothing.
-use Rattle.std.specs.Prelude.{if◌then◌else◌}
+use Rattle.std.specs.Bool.{then_some}
+use Rattle.std.specs.Prelude.{None, Some, Ok, if◌then◌else◌}
 use Prim.Native.Nat.{ℕ, zero, suc, ◌+◌, ◌*◌, ◌/◌, ◌%◌, ◌<◌}
 use mathlib.Core.Path.{◌≡◌, refl, ◌∙◌}
 use mathlib.Core.Bool.{true, false}
@@ -22,38 +23,37 @@ use Rattle.model.proofs.Slots.{slot_space-sameness, slot_axis-laws}
 use Rattle.model.proofs.Tree.{weight-pos, all_above, left-all-below}
 use Rattle.table.specs.Layout.{capacity_place, main_place, root_place}
 use Rattle.table.specs.Marks.{slot_mark}
-use Rattle.nodes.specs.Arms.{Arm, arms, arm_at, record_at}
+use Rattle.nodes.specs.Arms.{Arm, arms, arm_at, record_at, way_of}
+use Rattle.nodes.specs.Ways.{way_at}
 use Rattle.nodes.specs.Holds.{number, arm_of, times, Held}
 use Rattle.nodes.proofs.Held.{times-node, times-least, held-least, held-left, held-right}
 use Rattle.twofold_layout.specs.Rules.{SlotAuxiliary, SlotMain}
 use Rattle.primary_search.specs.Find.{find_leaf, find_node, find_beneath♯, find_root, find♯}
-use Rattle.table.specs.Limits.{deepest, absent}
+use Rattle.table.specs.Limits.{deepest}
 
 -- the finding goes by sameness and the order alone: marks that are the same are found alike
 module _ (m q : Mark) (e : same m q ≡ true) (xs : List ℕ) where
   beneath-alike : (fuel C n : ℕ) → find_beneath♯ fuel xs C m n ≡ find_beneath♯ fuel xs C q n
-  unfolding find_beneath♯ find_node find_leaf
+  unfolding find_beneath♯ find_node find_leaf way_at
   beneath-alike zero C n = refl
   beneath-alike (suc fuel) C n =
-      let p = record_at xs (main_place (n / 2)) in
       rw (
         sheet-sameness.alike m q e,
         below_alike sheet-sameness along_x-laws m q (slot_mark xs (n / 2)) e,
-        beneath-alike fuel C p.left.node,
-        beneath-alike fuel C p.right.node,
+        beneath-alike fuel C (way_at along_x main_place q (n / 2) xs).child.node,
       )
 
   pub find-alike : find♯ xs m ≡ find♯ xs q
   unfolding find♯ find_root
   find-alike = rw (beneath-alike deepest (get_or xs capacity_place 0) (arm_at xs root_place).node)
 
-pub find_none : (xs : List ℕ) (m : Mark) → (arm_at xs root_place).weight ≡ 0 → find♯ xs m ≡ absent
+pub find_none : (xs : List ℕ) (m : Mark) → (arm_at xs root_place).weight ≡ 0 → find♯ xs m ≡ Ok None
 unfolding find♯ find_root
 find_none xs m e = rw (eq-eqb (arm_at xs root_place).weight 0 e)
 
 module _ (f : ℕ → Mark) (C : ℕ) (xs : List ℕ) where
   -- one step down, by the order
-  find-leaf : (n s : ℕ) (m : Mark) → s < C → slot_mark xs s ≡ f s → find_beneath♯ (suc n) xs C m (2 * s) ≡ (if same m (f s) then s else absent)
+  find-leaf : (n s : ℕ) (m : Mark) → s < C → slot_mark xs s ≡ f s → find_beneath♯ (suc n) xs C m (2 * s) ≡ Ok (then_some (same m (f s)) s)
   unfolding find_beneath♯ find_node find_leaf
   find-leaf n s m b e =
       let even : (2 * s) % 2 ≡ 0 = omega arith in
@@ -62,11 +62,11 @@ module _ (f : ℕ → Mark) (C : ℕ) (xs : List ℕ) where
 
   find-inner : (n name : ℕ) (m : Mark) (l r : Arm) → name < C → record_at xs (main_place name) ≡ arms l r → slot_mark xs name ≡ f name
       → find_beneath♯ (suc n) xs C m (2 * name + 1) ≡ (if below_x m (f name) then find_beneath♯ n xs C m l.node else find_beneath♯ n xs C m r.node)
-  unfolding find_beneath♯ find_node
+  unfolding find_beneath♯ find_node way_at way_of
   find-inner n name m l r b e k =
       let odd : ((2 * name + 1) % 2 ≡ 0 → ⊥) = omega arith in
       let half : (2 * name + 1) / 2 ≡ name = omega arith in
-      rw (half, lt-leb C name b, ne_eqb ((2 * name + 1) % 2) 0 odd, k, e)
+      rw (half, lt-leb C name b, ne_eqb ((2 * name + 1) % 2) 0 odd, k, e) (by_cases (below_x m (f name)) (λ t. rw t) (λ t. rw t))
 
   named : (i : SlotAuxiliary) (l r : SlotMain) → Held along_x f main_place C xs (node i l r) → slot_mark xs (least r) ≡ f (least r)
   named i l r h = h.marked (least r) (omega (arith, times-node (least r) i l r, times-least r))
@@ -93,7 +93,7 @@ module _ (f : ℕ → Mark) (C : ℕ) (xs : List ℕ) where
         (left-all-below (slot_space f sheet) E (slot_axis f along_x) O s l r t o))
 
     found-beneath : (n : ℕ) (t : SlotMain) → depth t < n → Held along_x f main_place C xs t → Sorted (slot_axis f along_x) (marks t) → 0 < times s t
-        → find_beneath♯ n xs C (f s) (number t) ≡ s
+        → find_beneath♯ n xs C (f s) (number t) ≡ Ok (Some s)
     found-beneath zero t d h o k = absurd (omega arith)
     found-beneath (suc n) (leaf q) d h o k =
         by_cases (eqb s q)
@@ -111,7 +111,7 @@ module _ (f : ℕ → Mark) (C : ℕ) (xs : List ℕ) where
         (λ t. rw t (found-beneath n r (omega arith) (held-right h) sr (omega (arith, not_left l r o t)))))
 
   absent-beneath : (m : Mark) (n : ℕ) (t : SlotMain) → depth t < n → Held along_x f main_place C xs t → count_if (λ s. same m (f s)) (marks t) ≡ 0
-      → find_beneath♯ n xs C m (number t) ≡ absent
+      → find_beneath♯ n xs C m (number t) ≡ Ok None
   absent-beneath m zero t d h k = absurd (omega arith)
   absent-beneath m (suc n) (leaf q) d h k =
       rw (find-leaf n q m (held-least h) (h.marked q (times-least {I = SlotAuxiliary} (leaf q))))
@@ -129,9 +129,9 @@ module _ (f : ℕ → Mark) (C : ℕ) (xs : List ℕ) where
     find-root m = rw (root, ne_eqb (weight t) 0 (omega (arith, weight-pos t)), capacity)
 
     pub find-holds : Held along_x f main_place C xs t → Sorted (slot_axis f along_x) (marks t) → depth t < 40 → (s : ℕ) → 0 < times s t
-        → find♯ xs (f s) ≡ s
+        → find♯ xs (f s) ≡ Ok (Some s)
     find-holds h o d s k = find-root (f s) ∙ found-beneath s 40 t d h o k
 
     pub find_absent : Held along_x f main_place C xs t → depth t < 40 → (m : Mark) → count_if (λ s. same m (f s)) (marks t) ≡ 0
-        → find♯ xs m ≡ absent
+        → find♯ xs m ≡ Ok None
     find_absent h d m k = find-root m ∙ absent-beneath m 40 t d h k

@@ -1,8 +1,9 @@
--- On any words whatever, the mirror of the finding gives a slot only where the search by the words finds the mark there, and `absent` only where that search
+-- On any words whatever, the mirror of the finding gives a slot only where the search by the words finds the mark there, and none only where that search
 -- comes to its end without it. Assumes nothing.
 use Prim.Native.Nat.{ℕ, zero, suc, ◌+◌, ◌*◌, ◌/◌, ◌%◌, ◌<◌}
 use mathlib.Core.Path.{◌≡◌, refl, ap, subst}
 use mathlib.Core.Logic.{◌≢◌}
+use Rattle.std.specs.Prelude.{None, Some, Ok, Err}
 use mathlib.Core.Bool.{true, false}
 use mathlib.Core.List.{List}
 use native.Mathlib.Omega.{arith}
@@ -11,11 +12,12 @@ use borrow.Author.Tests.{eqb-true, eqb-false, leb-false}
 use Rattle.model.specs.Sheet.{Mark, same, below_x}
 use Rattle.model.proofs.Logic.{by_cases, clash}
 use Rattle.table.specs.Layout.{main_place, root_place}
-use Rattle.table.specs.Limits.{deepest, damaged, absent}
+use Rattle.table.specs.Limits.{deepest}
 use Rattle.table.specs.Marks.{slot_mark}
-use Rattle.nodes.specs.Arms.{arm_at, record_at}
+use Rattle.nodes.specs.Arms.{arm_at, record_at, way_of}
+use Rattle.nodes.specs.Ways.{way_at}
 use Rattle.table.specs.Header.{capacity_of}
-use Rattle.primary_search.specs.Find.{find_leaf, find_node, find_beneath♯, find_root, find♯}
+use Rattle.primary_search.specs.Find.{Sought, find_leaf, find_node, find_beneath♯, find_root, find♯}
 use Rattle.primary_search.specs.Sought.{Leads, leaf, left, right, Finds, Lacks, none, other}
 
 module _ (xs : List ℕ) (m : Mark) where
@@ -23,23 +25,23 @@ module _ (xs : List ℕ) (m : Mark) where
   C = capacity_of xs
 
   -- what a walk from a node has come to: nowhere, or the leaf of a slot, of the mark or of another
-  data Came (n : ℕ) : ℕ → Type 0 where
-    lost : Came n damaged
-    found : {s : ℕ} → s < C → Leads xs m n s → same m (slot_mark xs s) ≡ true → Came n s
-    missed : {s : ℕ} → Leads xs m n s → same m (slot_mark xs s) ≡ false → Came n absent
+  data Came (n : ℕ) : Sought → Type 0 where
+    lost : Came n (Err (record {}))
+    found : {s : ℕ} → s < C → Leads xs m n s → same m (slot_mark xs s) ≡ true → Came n (Ok (Some s))
+    missed : {s : ℕ} → Leads xs m n s → same m (slot_mark xs s) ≡ false → Came n (Ok None)
 
   at_leaf : (s : ℕ) → s < C → Came (2 * s) (find_leaf xs m s)
   unfolding find_leaf
   at_leaf s below = by_cases (same m (slot_mark xs s)) (λ t. rw t (found below (leaf below) t)) (λ f. rw f (missed (leaf below) f))
 
   -- a step from a node to a child
-  from-child : {n k r : ℕ} → ((s : ℕ) → Leads xs m k s → Leads xs m n s) → Came k r → Came n r
+  from-child : {n k : ℕ} {r : Sought} → ((s : ℕ) → Leads xs m k s → Leads xs m n s) → Came k r → Came n r
   from-child step lost = lost
   from-child step (found below way t) = found below (step _ way) t
   from-child step (missed way f) = missed (step _ way) f
 
   came : (f n : ℕ) → Came n (find_beneath♯ f xs C m n)
-  unfolding find_beneath♯ find_node
+  unfolding find_beneath♯ find_node way_at way_of
   came zero n = lost
   came (suc f) n =
       by_cases (leb C (n / 2))
@@ -84,31 +86,31 @@ module _ (xs : List ℕ) (m : Mark) where
   finds-not-lacks a (none e) = a.some e
   finds-not-lacks a (other {s = s} k way f) = clash (subst (λ s. same m (slot_mark xs s) ≡ true) (leads-once refl a.leads way) a.has) f
 
-  came-found : {r : ℕ} → (arm_at xs root_place).weight ≢ 0 → Came (arm_at xs root_place).node r → r ≢ damaged → r ≢ absent → Finds xs m r
-  came-found some lost d a = absurd (d refl)
-  came-found some (found below way t) d a = record { some = some; leads = way; has = t }
-  came-found some (missed way f) d a = absurd (a refl)
+  came-found : {s : ℕ} {r : Sought} → (arm_at xs root_place).weight ≢ 0 → Came (arm_at xs root_place).node r → r ≡ Ok (Some s) → Finds xs m s
+  came-found some lost e = absurd (cc)
+  came-found {s = s} some (found {s = q} below way t) e =
+      let same_slot : q ≡ s = cc in
+      subst (λ s. Finds xs m s) same_slot (record { some = some; leads = way; has = t })
+  came-found some (missed way f) e = absurd (cc)
 
-  pub find-finds : find♯ xs m ≢ damaged → find♯ xs m ≢ absent → Finds xs m (find♯ xs m)
+  pub find-finds : {s : ℕ} → find♯ xs m ≡ Ok (Some s) → Finds xs m s
   unfolding find♯ find_root
-  find-finds d a =
+  find-finds e =
       by_cases (eqb (arm_at xs root_place).weight 0)
-      (λ t. absurd (a (rw t)))
-      (λ f. rw f (came-found (eqb-false (arm_at xs root_place).weight 0 f) (came deepest (arm_at xs root_place).node) (rw f at d) (rw f at a)))
+      (λ t. absurd (let z = (rw t at e) in cc))
+      (λ f. came-found (eqb-false (arm_at xs root_place).weight 0 f) (came deepest (arm_at xs root_place).node) (rw f at e))
 
-  -- no slot is the value for a mark that is not there
-  module _ (small : C < absent) where
-    came-missed : {r : ℕ} → (arm_at xs root_place).weight ≢ 0 → Came (arm_at xs root_place).node r → r ≡ absent → Lacks xs m
-    came-missed some lost a = absurd (omega arith)
-    came-missed some (found below way t) a = absurd (omega (arith, small, below))
-    came-missed some (missed way f) a = other some way f
+  came-missed : {r : Sought} → (arm_at xs root_place).weight ≢ 0 → Came (arm_at xs root_place).node r → r ≡ Ok None → Lacks xs m
+  came-missed some lost e = absurd (cc)
+  came-missed some (found below way t) e = absurd (cc)
+  came-missed some (missed way f) e = other some way f
 
-    pub find-lacks : find♯ xs m ≡ absent → Lacks xs m
-    unfolding find♯ find_root
-    find-lacks a =
-        by_cases (eqb (arm_at xs root_place).weight 0)
-        (λ t. none (eqb-true (arm_at xs root_place).weight 0 t))
-        (λ f. came-missed (eqb-false (arm_at xs root_place).weight 0 f) (came deepest (arm_at xs root_place).node) (rw f at a))
+  pub find-lacks : find♯ xs m ≡ Ok None → Lacks xs m
+  unfolding find♯ find_root
+  find-lacks e =
+      by_cases (eqb (arm_at xs root_place).weight 0)
+      (λ t. none (eqb-true (arm_at xs root_place).weight 0 t))
+      (λ f. came-missed (eqb-false (arm_at xs root_place).weight 0 f) (came deepest (arm_at xs root_place).node) (rw f at e))
 
 -- the slot found is one of the table's
 leads-within : {xs : List ℕ} {m : Mark} {n s : ℕ} → Leads xs m n s → s < capacity_of xs

@@ -3,12 +3,12 @@
 use Rattle.std.specs.Prelude.{ℕ, ◌-◌, ◌/◌, ◌%◌, List, leb, ltb, eqb, length, get_or, if◌then◌else◌}
 use Rattle.model.specs.Sheet.{Box, along_x, holds}
 use Rattle.table.specs.Layout.{capacity_place, main_place, auxiliary_place, root_place, record_width, level_end}
-use Rattle.table.specs.Limits.{deepest, lost_count}
+use Rattle.table.specs.Limits.{lost_count}
 use Rattle.table.specs.Marks.{slot_mark}
 use Rattle.table.specs.Grades.{graded, word}
 use Rattle.table.specs.Figures.{arrived}
 use Rattle.nodes.specs.Arms.{Arm, arm_at}
-use Rattle.nodes.specs.Count.{Kind, side_along, low_from, high_from, low_end, high_end, open_from, count_tree}
+use Rattle.secondary_search.specs.Search.{How, count_tree♯}
 use Rattle.twofold_layout.specs.Levels.{top_level, deeper}
 use Rattle.secondary_search.specs.Count.{count♯}
 
@@ -30,38 +30,20 @@ module _ (xs : List ℕ) (capacity : ℕ) (b : Box) where
   handed♯ base n tally =
       if leb capacity (n / 2) then lost_count else (if eqb (n % 2) 0 then leaf♯ xs b (n / 2) tally else hand_over♯ base (n / 2) tally)
 
-  -- the main tree has its records in the slots, and the auxiliary trees of each depth their own level
-  abbrev pub main_kind : Kind ℕ
-  main_kind = record {
-    place = λ base name. main_place name;
-    deeper = λ base. deeper base capacity;
-    take = λ base a tally. handed♯ base a.node tally;
-    before = λ a tally. arrived tally 0 0;
-    past = λ tally. arrived tally 0 0;
-    visit = λ tally. arrived tally 0 0;
-    lost = lost_count;
-  }
+-- the main tree has its records in the slots, and the auxiliary trees of each depth their own level
+abbrev pub main : How
+main = record {
+  place = λ base name. main_place name;
+  deeper = λ C base. deeper base C;
+  take = λ C xs b base a tally. handed♯ xs C b base a.node tally;
+}
 
-  abbrev pub main_low♯ : ℕ → ℕ → ℕ → ℕ
-  main_low♯ base n tally = low_from main_kind (side_along along_x b) capacity xs deepest base n tally
-
-  abbrev pub main_high♯ : ℕ → ℕ → ℕ → ℕ
-  main_high♯ base n tally = high_from main_kind (side_along along_x b) capacity xs deepest base n tally
-
-  abbrev pub main_low_end♯ : ℕ → Arm → ℕ → ℕ
-  main_low_end♯ base a tally = low_end main_kind (side_along along_x b) capacity xs base a tally
-
-  abbrev pub main_high_end♯ : ℕ → Arm → ℕ → ℕ
-  main_high_end♯ base a tally = high_end main_kind (side_along along_x b) capacity xs base a tally
-
-  abbrev pub main_opened♯ : ℕ → ℕ → ℕ → ℕ
-  main_opened♯ base n tally = open_from main_kind (side_along along_x b) capacity xs deepest base n tally
-
+module _ (xs : List ℕ) (capacity : ℕ) (b : Box) where
   -- from the arm of a tree whose level begins at a word
   unfoldable pub main_search♯ : ℕ → Arm → ℕ
   main_search♯ base a =
       if leb capacity (a.node / 2) then lost_count
-      else (if eqb (a.node % 2) 0 then leaf♯ xs b (a.node / 2) 0 else count_tree main_kind (side_along along_x b) capacity xs base a 0)
+      else (if eqb (a.node % 2) 0 then leaf♯ xs b (a.node / 2) 0 else count_tree♯ main along_x capacity xs b base a 0)
 
   unfoldable pub count_root : Arm → ℕ
   count_root a = if eqb a.weight 0 then 0 else main_search♯ (top_level capacity) a

@@ -6,49 +6,47 @@ ghost use Rattle.table.specs.Limits.{deepest};
 ghost use Rattle.primary_search.specs.Find.{find_beneath♯, find_from♯};
 
 use geometry::Mark;
-use nodes::primary::{Primary, PrimaryArm, PrimaryRecord};
+use nodes::arm::{Arm, Node};
+use nodes::primary::Primary;
+use nodes::record::Record;
+use table::damage::Damaged;
 use table::{layout, limits, slots};
 
-// The slot of the mark m beneath a node. A node that is of no slot of the table is damage.
-fn find_beneath(t: &[u32], capacity: u32, m: Mark, start: Primary) -> u32
+// The slot beneath a node that has the mark m, if there is one. A node that is of no slot of the table is damage.
+#[tactic(auto, using(crate::proofs::Walks::finds), unfolding(crate::specs::Find::find_node, crate::specs::Find::find_leaf))]
+fn find_beneath(
+    t: &[u32],
+    capacity: u32,
+    m: Mark,
+    start: Node<Primary>,
+) -> Result<Option<u32>, Damaged>
     requires { slots_end capacity ≤ length t.now }
     ensures { result ≡ find_beneath♯ deepest t.now capacity (mark_value m) start.0 }
 {
     let mut node = start;
-    let mut left = limits::DEEPEST;
-    while 0 < left {
-        left -= 1;
+    for turn in 0..limits::DEEPEST {
         let s = node.slot();
         if capacity <= s {
-            return limits::DAMAGED;
+            return Err(Damaged);
         }
-        let here = slots::load(t, s);
         if node.is_leaf() {
-            if m.same(here) {
-                return s;
-            }
-            return limits::ABSENT;
+            return Ok(m.same(slots::load(t, s)).then_some(s));
         }
-        let p = PrimaryRecord::load(t, s);
-        let l = p.left;
-        let r = p.right;
-        if m.below_x(here) {
-            node = l.node;
-        } else {
-            node = r.node;
-        }
+        let way = Record::way(t, Primary { capacity }, s, m);
+        node = way.child.node;
     }
-    limits::DAMAGED
+    Err(Damaged)
 }
 
-// The slot of the mark m, or ABSENT; DAMAGED where the words hold no tree.
-pub fn find(t: &[u32], capacity: u32, m: Mark) -> u32
+// The slot that has the mark m, if there is one; damage where the words hold no tree.
+#[tactic(auto, unfolding(crate::specs::Find::find_root))]
+pub fn find(t: &[u32], capacity: u32, m: Mark) -> Result<Option<u32>, Damaged>
     requires { slots_end capacity ≤ length t.now }
     ensures { result ≡ find_from♯ t.now capacity (mark_value m) }
 {
-    let root = PrimaryArm::load(t, layout::ROOT);
+    let root = Arm::load(t, layout::ROOT);
     if root.weight == 0 {
-        return limits::ABSENT;
+        return Ok(None);
     }
     find_beneath(t, capacity, m, root.node)
 }

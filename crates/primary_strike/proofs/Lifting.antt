@@ -28,7 +28,7 @@ use Rattle.twofold_layout.proofs.Rules.{rules-auxiliary-times}
 use Rattle.twofold_layout.proofs.Over.{TwoLeaves, two-left, two-right, two-over, deeper-level, two-level}
 use Rattle.secondary_build.specs.Copy.{copy♯}
 use Rattle.secondary_build.proofs.Copying.{Copied, copy_holds}
-use Rattle.primary_strike.specs.Lift.{lift_record, lift_there, lift_node, lift♯}
+use Rattle.primary_strike.specs.Lift.{lift♯}
 use Rattle.table.specs.Limits.{sibling_deepest}
 use Rattle.twofold_layout.proofs.Beneath.{deep-two}
 use Rattle.twofold_layout.proofs.Node.{kept-sibling}
@@ -120,7 +120,7 @@ module _ (f : ℕ → Mark) (C : ℕ) (small : C ≤ 65536) where
       ≡ (let rec : (ℕ → List ℕ → List ℕ) = lift♯ k C (level_place C (suc (suc d))) (level_place C (suc d)) in
       rec (number r) (rec (number l)
       (copy♯ sibling_deepest C (record_place (level_place C (suc d))) (record_place (level_place C d)) (number h.auxiliaries.0.tree) xs)))
-  unfolding lift♯ lift_node lift_there lift_record
+  unfolding lift♯
   lift-node k d i l r xs h ln deep =
       let odd : ((2 * least r + 1) % 2 ≡ 0 → ⊥) = omega arith in
       let half : (2 * least r + 1) / 2 ≡ least r = omega arith in
@@ -139,7 +139,7 @@ module _ (f : ℕ → Mark) (C : ℕ) (small : C ≤ 65536) where
       )
 
   lift-leaf : (k from to s : ℕ) (xs : List ℕ) → lift♯ k C from to (2 * s) xs ≡ xs
-  unfolding lift♯ lift_node
+  unfolding lift♯
   lift-leaf zero from to s xs = refl
   lift-leaf (suc k) from to s xs =
       let even : (2 * s) % 2 ≡ 0 = omega arith in

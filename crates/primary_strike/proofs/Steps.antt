@@ -1,10 +1,11 @@
 -- The parts of a strike at one node of a two-fold tree: its child goes, it is built afresh, or its auxiliary tree and one child are struck and it is
 -- written anew. Assumes nothing.
 use Prim.Native.Nat.{ℕ, suc, ◌+◌, ◌-◌, ◌≤◌, ◌<◌}
-use mathlib.Core.Path.{◌≡◌, sym, ap, subst, ◌∙◌}
+use mathlib.Core.Path.{◌≡◌, refl, sym, ap, subst, ◌∙◌}
 use mathlib.Core.Bool.{true, false}
 use mathlib.Core.List.{List, ◌++◌}
 use mathlib.Core.Option.{some, some-injective}
+use Rattle.std.specs.Prelude.{Option, Some}
 use native.Mathlib.Omega.{arith}
 use lib.ListN.{length, length-append}
 use borrow.Author.Tests.{ne_eqb}
@@ -21,7 +22,7 @@ use Rattle.model.proofs.Rebalance.{balanced-rebuilt, balanced-rebalance}
 use Rattle.table.specs.Layout.{main_place, auxiliary_place, level_place, record_place}
 use Rattle.nodes.specs.Arms.{Arm, over_arm, arm_at, put_arm, put_record}
 use Rattle.nodes.specs.Holds.{number, arm_of, times_in, times, Held}
-use Rattle.table.specs.After.{After, after}
+use Rattle.table.specs.After.{After}
 use Rattle.nodes.proofs.Unchanged.{unchanged-trans}
 use Rattle.nodes.proofs.Frames.{Region}
 use Rattle.nodes.proofs.Held.{times-node, held-right, held-least, Names, least-marks, names-left, names-right, Leaves}
@@ -35,7 +36,7 @@ use Rattle.secondary_update.proofs.Striking.{Strikes, in_left, in_right, strikes
 use Rattle.secondary_update.proofs.Auxiliaries.{auxiliary-strike}
 use Rattle.primary_build.proofs.Building.{main-rebuild-holds}
 use Rattle.secondary_update.specs.Updates.{Strike, strike_of}
-use Rattle.primary_strike.specs.Strike.{lifted♯, struck_fresh, struck_afresh♯, arm_only, struck_auxiliary♯, main_node_over}
+use Rattle.primary_strike.specs.Strike.{lifted♯, struck_afresh♯, struck_auxiliary♯}
 use Rattle.twofold_layout.proofs.Beneath.{deep-two}
 use Rattle.twofold_layout.proofs.Kept.{clear_none, kept-tree}
 use Rattle.twofold_layout.proofs.Node.{kept-sibling, node-leaves}
@@ -48,10 +49,11 @@ pub record LeavesMain (f : ℕ → Mark) (C s d : ℕ) (xs : List ℕ) (t t' : S
   pub first : least t ≡ s → p.out.first ≡ least t'
 
 -- once struck
-pub record StruckAuxiliary (f : ℕ → Mark) (C d : ℕ) (o : SlotAuxiliary) (xs : List ℕ) (p : After Arm) : Type 0 where
+pub record StruckAuxiliary (f : ℕ → Mark) (C d : ℕ) (o : SlotAuxiliary) (xs : List ℕ) (p : After (Option Arm)) : Type 0 where
   pub tree : Tree ℕ (List ℕ)
   pub is : o ≡ some tree
-  pub leaves : Leaves along_y f (record_place (level_place C d)) C xs p.out p.words tree
+  pub arm : p.out ≡ Some (arm_of along_y f tree)
+  pub leaves : Leaves along_y f (record_place (level_place C d)) C xs (arm_of along_y f tree) p.words tree
 
 module _ (f : ℕ → Mark) (s : ℕ) where
   -- what remains is by the rules
@@ -62,13 +64,6 @@ module _ (f : ℕ → Mark) (s : ℕ) where
 
     pub struck-rules : ByRules f (rebalance (slot_axis f along_x) (slot_auxiliary f) t')
     struck-rules = strike-rules f s t (slot-count f s t (strikes-in along_x f s (slot_auxiliary f) k)) b t' (strikes-leaf along_x f s (slot_auxiliary f) k)
-
--- the mirror of its writing
-pub over-main : (f : ℕ → Mark) (name : ℕ) (l r : Arm) (x : Tree ℕ (List ℕ)) (n first : ℕ) (zs : List ℕ)
-    → main_node_over (arm_of along_y f x) name l r n first zs
-    ≡ after (strike_of (over_arm name l r) n first) (put_arm (put_record zs (main_place name) l r) (auxiliary_place name) (arm_of along_y f x))
-unfolding main_node_over
-over-main f name l r x n first zs = rw (ne_eqb (weight x) 0 (omega (arith, weight-pos x)))
 
 module _ (f : ℕ → Mark) (C : ℕ) (small : C ≤ 65536) (s : ℕ) where
   -- the model's axis and register over slots
@@ -83,7 +78,7 @@ module _ (f : ℕ → Mark) (C : ℕ) (small : C ≤ 65536) (s : ℕ) where
       → ByRules f u → weight u ≤ 3
       → suc d + depth u ≤ D C → (least t ≡ s → first ≡ least u)
       → LeavesMain f C s d xs t u (lifted♯ C (level_place C d) (arm_of along_x f u) first xs)
-  unfolding lifted♯ strike_of
+  unfolding strike_of
   goes-holds d u xs t first ln h b w deep e =
       let a = lift-holds f C small 3 u d xs ln h b.auxiliaries w (small-depth u b.balanced w) deep in
       rw (deeper-level C d small (omega (arith, most-levels C small))) record {
@@ -97,13 +92,13 @@ module _ (f : ℕ → Mark) (C : ℕ) (small : C ≤ 65536) (s : ℕ) where
       → ByRules f t → depth t < 40 → d + depth (rebalance X R t') ≤ D C → rebalance X R t' ≡ build X R d₀ (marks t')
       → rebuilt t' ≡ weight t'
       → LeavesMain f C s d xs t t' (struck_afresh♯ C s (level_place C d) (weight t) (number t) xs)
-  unfolding struck_afresh♯ struck_fresh strike_of
+  unfolding strike_of
   afresh-holds d d₀ t t' xs k ln h b low deep e n =
       let w : weight t - 1 ≡ weight t' = omega (arith, strikes-weight along_x f s R k) in
       let a = main-rebuild-holds f C s (weight t') d₀ d t (marks t') xs h.main low b.sorted small ln
       (strikes-marks along_x f s R k h.main.once) (marks-pos t') (rw e at deep) (weight-marks t') in
-      rw w record {
-        leaves = rw e record { is = a.is; held = a.held; frame = a.frame };
+      rw (w, a.is, ne_eqb (weight (build X R d₀ (marks t'))) 0 (omega (arith, weight-pos (build X R d₀ (marks t'))))) record {
+        leaves = rw e record { is = refl; held = a.held; frame = a.frame };
         figure = sym n;
         first = λ z. a.first ∙ ap least (sym e) ∙ least-marks (rebalance X R t') t' (rebalance-marks X R t');
       }
@@ -123,11 +118,15 @@ module _ (f : ℕ → Mark) (C : ℕ) (small : C ≤ 65536) (s : ℕ) where
       → name < C → o ≡ some x → arm_at xs (auxiliary_place name) ≡ arm_of along_y f x → Held along_y f (record_place (level_place C d)) C xs x
       → Sorted (slot_axis f along_y) (marks x) → Balanced x → 1 < weight x → 0 < times s x
       → StruckAuxiliary f C d (R.strike s o) xs (struck_auxiliary♯ C (f s) s (level_place C d) name xs)
-  unfolding struck_auxiliary♯ arm_only
-  auxiliary-struck d name o xs (leaf q) g in_c is arm h sorted b many k = absurd (omega arith)
-  auxiliary-struck d name o xs (node i l r) g in_c is arm h sorted b many k =
-      let a = auxiliary-strike f (level_place C d) C xs g s name i l r in_c arm h b sorted k in
-      record { tree = a.tree; is = ap (λ o. R.strike s o) is ∙ a.is; leaves = a.leaves }
+  auxiliary-struck d name o xs (leaf q) g in_c is arm h order b many k = absurd (omega arith)
+  auxiliary-struck d name o xs (node i l r) g in_c is arm h order b many k =
+      let a = auxiliary-strike f (level_place C d) C xs g s name i l r in_c arm h b order k in
+      record {
+        tree = a.tree;
+        is = ap (λ o. R.strike s o) is ∙ a.is;
+        arm = rw (a.leaves.is, ne_eqb (weight a.tree) 0 (omega (arith, weight-pos a.tree)));
+        leaves = record { is = refl; held = a.leaves.held; frame = a.leaves.frame };
+      }
 
   -- THE NODE over m and n after the strikes from its auxiliary tree and from one child
   even-leaves : (d : ℕ) (j : SlotAuxiliary) (m n : SlotMain) (x : Tree ℕ (List ℕ)) (xs ys zs : List ℕ) (a : Arm) {P Q : ℕ → Type 0}
@@ -152,7 +151,7 @@ module _ (f : ℕ → Mark) (C : ℕ) (small : C ≤ 65536) (s : ℕ) where
   -- an inner node at depth d, whose words are right
   module _ (d : ℕ) (i : SlotAuxiliary) (l r : SlotMain) (xs : List ℕ) (ln : length xs ≡ W C)
       (h : TwoFold f C d xs (node i l r)) (b : ByRules f (node i l r)) (level : d < D C) where
-    abbrev struck : After Arm
+    abbrev struck : After (Option Arm)
     struck = struck_auxiliary♯ C (f s) s (level_place C d) (least r) xs
 
     pub node-struck : 0 < times s (node i l r) → StruckAuxiliary f C d (R.strike s i) xs struck
@@ -192,7 +191,7 @@ module _ (f : ℕ → Mark) (C : ℕ) (small : C ≤ 65536) (s : ℕ) where
           let apart : ((z : ℕ) → times z m + times z r ≤ 1) = λ z. omega (arith, alike z, node-apart z, strikes-times along_x f s R k z) in
           let same : ((z : ℕ) → times z u.tree ≡ times z (node j m r)) =
           λ z. rules-auxiliary-times f of.0 u.is z ∙ ap (λ l. times_in z (l ++ marks r)) (sym (rebalance-marks X R l')) in
-          even-leaves d j m r u.tree xs struck.words p.words struck.out ln u.is same u.leaves q.leaves.frame (names-left j m r)
+          even-leaves d j m r u.tree xs struck.words p.words (arm_of along_y f u.tree) ln u.is same u.leaves q.leaves.frame (names-left j m r)
           (λ z n. omega (arith, times-node z j m r)) apart q.leaves.held
           (kept-sibling (suc d) m r q.leaves.frame (λ z n. q.leaves.held.main.within z n) apart b.auxiliaries.2 struck-right)
           (struck-rules f s k (rules-left f b)).auxiliaries b.auxiliaries.2
@@ -212,7 +211,7 @@ module _ (f : ℕ → Mark) (C : ℕ) (small : C ≤ 65536) (s : ℕ) where
           let apart : ((z : ℕ) → times z l + times z m ≤ 1) = λ z. omega (arith, alike z, node-apart z, strikes-times along_x f s R k z) in
           let same : ((z : ℕ) → times z u.tree ≡ times z (node j l m)) =
           λ z. rules-auxiliary-times f of.0 u.is z ∙ ap (λ r. times_in z (marks l ++ r)) (sym (rebalance-marks X R r')) in
-          even-leaves d j l m u.tree xs struck.words p.words struck.out ln u.is same u.leaves q.leaves.frame
+          even-leaves d j l m u.tree xs struck.words p.words (arm_of along_y f u.tree) ln u.is same u.leaves q.leaves.frame
           (λ z n. names-right j l m apart z n.0) (λ z n. omega (arith, times-node z j l m)) apart
           (kept-sibling (suc d) m l q.leaves.frame (λ z n. q.leaves.held.main.within z n)
           (λ z. omega (arith, apart z)) b.auxiliaries.1 struck-left)

@@ -39,10 +39,10 @@ use Rattle.secondary_update.proofs.Inserting.{rebuilt-weight}
 use Rattle.secondary_update.proofs.Striking.{strike-leads, struck_node, renamed-least, apart-least}
 use Rattle.secondary_update.proofs.Striking.{Strikes, left_goes, right_goes, in_left, in_right, leads-strikes, strikes-in, strikes-weight}
 use Rattle.secondary_update.specs.Updates.{Strike, strike_of}
-use Rattle.primary_strike.specs.Strike.{MainStriking, struck_auxiliary♯, main_strike_here, main_child, main_strike_way, main_strike_node}
-use Rattle.primary_strike.specs.Strike.{strike_beneath♯, put_struck, strike_root, main_strike♯}
+use Rattle.primary_strike.specs.Strike.{MainStriking, struck_auxiliary♯, main_child}
+use Rattle.primary_strike.specs.Strike.{strike_beneath♯, put_struck, main_strike♯}
 use Rattle.twofold_layout.proofs.Node.{root-leaves}
-use Rattle.primary_strike.proofs.Steps.{LeavesMain, over-main, struck-rules, goes-holds, afresh-holds}
+use Rattle.primary_strike.proofs.Steps.{LeavesMain, struck-rules, goes-holds, afresh-holds}
 use Rattle.primary_strike.proofs.Steps.{node-struck, struck-long, struck-left, struck-right, left-node, right-node}
 
 -- what the strike of a slot leaves of the tree at the root, where a tree t' remains
@@ -79,7 +79,7 @@ module _ (f : ℕ → Mark) (C : ℕ) (small : C ≤ 65536) (s : ℕ) where
       ≡ (let rec : MainStriking = strike_beneath♯ n C (f s) s in
       let v : Way = way_of (arms (arm_of along_x f l) (arm_of along_x f r)) (along_x.below (f s) (f (least r))) in
       main_child rec C (f s) s (least r) v (level_place C d) (weight l + weight r) (2 * least r + 1) xs)
-  unfolding strike_beneath♯ main_strike_node main_strike_way way_at
+  unfolding strike_beneath♯ way_at
   beneath-node n d i l r xs h =
       let half : (2 * least r + 1) / 2 ≡ least r = omega arith in
       let p : Record = arms (arm_of along_x f l) (arm_of along_x f r) in
@@ -98,7 +98,7 @@ module _ (f : ℕ → Mark) (C : ℕ) (small : C ≤ 65536) (s : ℕ) where
   left-goes : (rec : MainStriking) (d : ℕ) (i : SlotAuxiliary) (r : SlotMain) (xs : List ℕ) → length xs ≡ W C → TwoFold f C d xs (node i (leaf s) r)
       → ByRules f (node i (leaf s) r) → d + depth (node i (leaf s) r) ≤ D C
       → LeavesMain f C s d xs (node i (leaf s) r) r (lefts rec d (leaf s) r xs)
-  unfolding main_child main_strike_here first_left
+  unfolding first_left
   left-goes rec d i r xs ln h b deep =
       rw (heavy-none (weight r) (weight-pos r))
       (goes-holds f C small s d r xs (node i (leaf s) r) (least r) ln (two-right h) (rules-right f b) (omega (arith, b.balanced.0))
@@ -107,7 +107,7 @@ module _ (f : ℕ → Mark) (C : ℕ) (small : C ≤ 65536) (s : ℕ) where
   right-goes : (rec : MainStriking) (d : ℕ) (i : SlotAuxiliary) (l : SlotMain) (xs : List ℕ) → length xs ≡ W C → TwoFold f C d xs (node i l (leaf s))
       → ByRules f (node i l (leaf s)) → d + depth (node i l (leaf s)) ≤ D C
       → LeavesMain f C s d xs (node i l (leaf s)) l (rights rec d l (leaf s) xs)
-  unfolding main_child main_strike_here first_left
+  unfolding first_left
   right-goes rec d i l xs ln h b deep =
       rw (heavy-none (weight l) (weight-pos l))
       (goes-holds f C small s d l xs (node i l (leaf s)) 0 ln (two-left h) (rules-left f b) (omega (arith, b.balanced.1))
@@ -126,7 +126,7 @@ module _ (f : ℕ → Mark) (C : ℕ) (small : C ≤ 65536) (s : ℕ) where
     left-even : (l' : SlotMain) → along_x.below (f s) (f (least r)) ≡ true → Strikes along_x f s R l l' → evenly l' r ≡ true
         → StruckBy rec (suc d) l l'
         → LeavesMain f C s d xs (node i l r) (node here l' r) (lefts rec d l r xs)
-    unfolding main_child strike_over strike_of
+    unfolding strike_over strike_of
     left-even l' e k even struck_by =
         let u = node-struck f C small s d i l r xs ln h b level (omega (arith, strikes-in along_x f s R k, times-node s i l r)) in
         let ys : List ℕ = (struck_auxiliary♯ C (f s) s (level_place C d) (least r) xs).words in
@@ -136,7 +136,6 @@ module _ (f : ℕ → Mark) (C : ℕ) (small : C ≤ 65536) (s : ℕ) where
         let w = strikes-weight along_x f s R k in
         let less : weight l - 1 ≡ weight l' = omega arith in
         let one : p.out.arm.weight ≡ weight l' = ap (λ a. a.weight) q.leaves.is ∙ rebalance-weight X R l' in
-        let over = over-main f (least r) (arm_of along_x f m) (arm_of along_x f r) u.tree p.out.rebuilt p.out.first p.words in
         rw (
           less,
           ← balanced-less (weight l) (weight r) (weight l') b.balanced.1 w,
@@ -144,8 +143,7 @@ module _ (f : ℕ → Mark) (C : ℕ) (small : C ≤ 65536) (s : ℕ) where
           deeper-level C d small low,
           eq-eqb p.out.arm.weight (weight l') one,
           q.leaves.is,
-          u.leaves.is,
-          over,
+          u.arm,
         ) record {
           leaves = rw (rebalance-left X R here l' r b.balanced.3, even) (left-node f C small s d i l r xs ln h b level u l' p e k q);
           figure = rw (rebuilt-left here l' r b.balanced.3, even) q.figure;
@@ -155,7 +153,7 @@ module _ (f : ℕ → Mark) (C : ℕ) (small : C ≤ 65536) (s : ℕ) where
     right-even : (r' : SlotMain) → along_x.below (f s) (f (least r)) ≡ false → Strikes along_x f s R r r' → evenly l r' ≡ true
         → StruckBy rec (suc d) r r'
         → LeavesMain f C s d xs (node i l r) (node here l r') (rights rec d l r xs)
-    unfolding main_child strike_over strike_of
+    unfolding strike_over strike_of
     right-even r' e k even struck_by =
         let u = node-struck f C small s d i l r xs ln h b level (omega (arith, strikes-in along_x f s R k, times-node s i l r)) in
         let ys : List ℕ = (struck_auxiliary♯ C (f s) s (level_place C d) (least r) xs).words in
@@ -169,7 +167,6 @@ module _ (f : ℕ → Mark) (C : ℕ) (small : C ≤ 65536) (s : ℕ) where
         let in_c : least r' < C = rw (← first-m) (held-least q.leaves.held.main) in
         let named : renamed C (least r) s p.out.first ≡ least m =
         renamed-least along_x f R main_place C s r r' p.out.first k in_c q.first ∙ sym first-m in
-        let over = over-main f (least m) (arm_of along_x f l) (arm_of along_x f m) u.tree p.out.rebuilt 0 p.words in
         rw (
           less,
           ← balanced-less (weight r) (weight l) (weight r') (omega (arith, b.balanced.0)) w,
@@ -178,9 +175,8 @@ module _ (f : ℕ → Mark) (C : ℕ) (small : C ≤ 65536) (s : ℕ) where
           deeper-level C d small low,
           eq-eqb p.out.arm.weight (weight r') one,
           q.leaves.is,
-          u.leaves.is,
+          u.arm,
           named,
-          over,
         ) record {
           leaves = rw (rebalance-right X R here l r' b.balanced.2, even) (right-node f C small s d i l r xs ln h b level u r' p e k q);
           figure = rw (rebuilt-right here l r' b.balanced.2, even) q.figure;
@@ -191,7 +187,6 @@ module _ (f : ℕ → Mark) (C : ℕ) (small : C ≤ 65536) (s : ℕ) where
     left-uneven : (l' : SlotMain) → along_x.below (f s) (f (least r)) ≡ true → Strikes along_x f s R l l' → depth (node i l r) < 40
         → d + depth (rebalance X R (node here l' r)) ≤ D C → evenly l' r ≡ false
         → LeavesMain f C s d xs (node i l r) (node here l' r) (lefts rec d l r xs)
-    unfolding main_child main_strike_here
     left-uneven l' e k shallow deep' uneven =
         let w = strikes-weight along_x f s R k in
         let many : eqb (weight l) 1 ≡ false = ne_eqb (weight l) 1 (omega (arith, weight-pos l')) in
@@ -203,7 +198,6 @@ module _ (f : ℕ → Mark) (C : ℕ) (small : C ≤ 65536) (s : ℕ) where
     right-uneven : (r' : SlotMain) → along_x.below (f s) (f (least r)) ≡ false → Strikes along_x f s R r r' → depth (node i l r) < 40
         → d + depth (rebalance X R (node here l r')) ≤ D C → evenly l r' ≡ false
         → LeavesMain f C s d xs (node i l r) (node here l r') (rights rec d l r xs)
-    unfolding main_child main_strike_here
     right-uneven r' e k shallow deep' uneven =
         let w = strikes-weight along_x f s R k in
         let many : eqb (weight r) 1 ≡ false = ne_eqb (weight r) 1 (omega (arith, weight-pos r')) in
@@ -262,7 +256,6 @@ module _ (f : ℕ → Mark) (C : ℕ) (small : C ≤ 65536) (s : ℕ) where
   put_holds : (xs : List ℕ) {t t' : SlotMain} (p : After Strike) → Strikes along_x f s R t t' → length xs ≡ W C → ByRules f t
       → LeavesMain f C s 0 xs t t' p
       → LeavesRoot f C xs t' (put_struck p)
-  unfolding put_struck
   put_holds xs {t = t} {t' = t'} p k ln b q =
       let m : SlotMain = rebalance X R t' in
       let pos : eqb p.out.arm.weight 0 ≡ false = rw q.leaves.is (ne_eqb (weight m) 0 (omega (arith, weight-pos m))) in
@@ -283,7 +276,7 @@ module _ (f : ℕ → Mark) (C : ℕ) (small : C ≤ 65536) (s : ℕ) where
   pub main_strike-holds : (i : SlotAuxiliary) (l r : SlotMain) (xs : List ℕ) → length xs ≡ W C
       → arm_at xs root_place ≡ arm_of along_x f (node i l r) → TwoFold f C 0 xs (node i l r) → ByRules f (node i l r) → 0 < times s (node i l r)
       → LeavesRoot f C xs (struck_node along_x f s (slot_auxiliary f) i l r) (main_strike♯ C (f s) s xs)
-  unfolding main_strike♯ strike_root
+  unfolding main_strike♯
   main_strike-holds i l r xs ln arm h b n =
       let k = leads-strikes along_x f s R i l r (strike-leads along_x f s sheet-sameness along_x-laws (node i l r) b.sorted n) in
       let odd : ((2 * least r + 1) % 2 ≡ 0 → ⊥) = omega arith in
@@ -297,7 +290,7 @@ module _ (f : ℕ → Mark) (C : ℕ) (small : C ≤ 65536) (s : ℕ) where
   pub main_strike-lone : (q : ℕ) (xs : List ℕ) → length xs ≡ W C → arm_at xs root_place ≡ arm_of {I = SlotAuxiliary} along_x f (leaf q)
       → let p = main_strike♯ C (f s) s xs in
       (arm_at p.words root_place ≡ no_arm) × (p.out ≡ 0) × TwoFrame C 0 (λ z. ⊥) (λ z. ⊥) root_place arm_width xs p.words
-  unfolding main_strike♯ strike_root
+  unfolding main_strike♯
   main_strike-lone q xs ln arm =
       let even : (2 * q) % 2 ≡ 0 = omega arith in
       let room : root_place + arm_width ≤ length xs = omega (arith, (two-main small ln).run_room) in

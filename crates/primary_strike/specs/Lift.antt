@@ -1,5 +1,5 @@
 -- The mirror of the lifting. Assumes nothing.
-use Rattle.std.specs.Prelude.{ℕ, zero, suc, ◌-◌, ◌/◌, ◌%◌, ◌≡◌, refl, List, leb, ltb, eqb, length, if◌then◌else◌}
+use Rattle.std.specs.Prelude.{ℕ, zero, suc, ◌-◌, ◌/◌, ◌%◌, ◌≡◌, refl, ◌||◌, List, leb, ltb, eqb, length, if◌then◌else◌}
 use Rattle.std.proofs.Common.{arith}
 use Rattle.table.specs.Layout.{main_place, auxiliary_place, record_place, level_end}
 use Rattle.table.specs.Limits.{sibling_deepest}
@@ -11,21 +11,21 @@ use Rattle.secondary_build.specs.Copy.{copy♯}
 abbrev pub Lifting : Type 0
 Lifting = ℕ → ℕ → ℕ → List ℕ → List ℕ
 
-unfoldable pub lift_record : Lifting → ℕ → ℕ → ℕ → ℕ → Record → List ℕ → List ℕ
+abbrev pub lift_record : Lifting → ℕ → ℕ → ℕ → ℕ → Record → List ℕ → List ℕ
 lift_record rec capacity from to name p xs =
     let ys : List ℕ = copy♯ sibling_deepest capacity (record_place from) (record_place to) (arm_at xs (auxiliary_place name)).node xs in
     rec (deeper from capacity) from p.right.node (rec (deeper from capacity) from p.left.node ys)
 
 -- levels that are not there hold no tree
-unfoldable pub lift_there : Lifting → ℕ → ℕ → ℕ → ℕ → List ℕ → List ℕ
+abbrev pub lift_there : Lifting → ℕ → ℕ → ℕ → ℕ → List ℕ → List ℕ
 lift_there rec capacity from to name xs =
-    if ltb (length xs) (level_end from capacity) then xs
-    else (if ltb (length xs) (level_end to capacity) then xs else lift_record rec capacity from to name (record_at xs (main_place name)) xs)
+    if ltb (length xs) (level_end from capacity) || ltb (length xs) (level_end to capacity) then xs
+    else lift_record rec capacity from to name (record_at xs (main_place name)) xs
 
 -- what is beneath a node of no slot stays as it is
-unfoldable pub lift_node : Lifting → ℕ → Lifting
+abbrev pub lift_node : Lifting → ℕ → Lifting
 lift_node rec capacity from to n xs =
-    if eqb (n % 2) 0 then xs else (if leb capacity (n / 2) then xs else lift_there rec capacity from to (n / 2) xs)
+    if eqb (n % 2) 0 || leb capacity (n / 2) then xs else lift_there rec capacity from to (n / 2) xs
 
 unfoldable pub lift♯ : ℕ → ℕ → Lifting
 lift♯ zero capacity from to n xs = xs

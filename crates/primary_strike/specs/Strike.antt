@@ -1,5 +1,5 @@
 -- The mirror of the strike from the two-fold tree. Assumes nothing.
-use Rattle.std.specs.Prelude.{ℕ, zero, suc, ◌+◌, ◌-◌, ◌/◌, ◌%◌, ◌≡◌, refl, not, List, leb, eqb, if◌then◌else◌}
+use Rattle.std.specs.Prelude.{ℕ, zero, suc, ◌+◌, ◌-◌, ◌/◌, ◌%◌, ◌≡◌, refl, not, List, Option, Some, None, leb, eqb, if◌then◌else◌}
 use Rattle.std.proofs.Common.{arith}
 use Rattle.model.specs.Sheet.{Mark, along_x}
 use Rattle.table.specs.Layout.{main_place, auxiliary_place, root_place}
@@ -15,52 +15,53 @@ use Rattle.primary_build.specs.Build.{Freshly, main_rebuild♯}
 use Rattle.primary_strike.specs.Lift.{lift♯}
 
 -- the sibling of the struck leaf takes the parent's place
-unfoldable pub lifted♯ : ℕ → ℕ → Arm → ℕ → List ℕ → After Strike
+abbrev pub lifted♯ : ℕ → ℕ → Arm → ℕ → List ℕ → After Strike
 lifted♯ capacity base a first xs = after (strike_of a 0 first) (lift♯ sibling_deepest capacity (deeper base capacity) base a.node xs)
 
 -- from where a tree's level begins, its weight and number, and the words
 abbrev pub MainStriking : Type 0
 MainStriking = ℕ → ℕ → ℕ → List ℕ → After Strike
 
--- a tree of w marks built afresh without the slot s
-unfoldable pub struck_fresh : ℕ → After Freshly → After Strike
-struck_fresh w p = after (strike_of p.out.arm (w - 1) p.out.first) p.words
+-- a tree of w marks built afresh without the slot s, where the words hold one
+abbrev pub struck_fresh : ℕ → After Freshly → After Strike
+struck_fresh w p = if eqb p.out.arm.weight 0 then after no_strike p.words else after (strike_of p.out.arm (w - 1) p.out.first) p.words
 
-unfoldable pub struck_afresh♯ : ℕ → ℕ → MainStriking
+abbrev pub struck_afresh♯ : ℕ → ℕ → MainStriking
 struck_afresh♯ capacity s base w n xs = struck_fresh w (main_rebuild♯ capacity base s (w - 1) w n xs)
 
-unfoldable pub arm_only : After Strike → After Arm
-arm_only p = after p.out.arm p.words
+-- the arm left, where a tree is left
+abbrev pub arm_only : After Strike → After (Option Arm)
+arm_only p = after (if eqb p.out.arm.weight 0 then None else Some p.out.arm) p.words
 
-unfoldable pub struck_auxiliary♯ : ℕ → Mark → ℕ → ℕ → ℕ → List ℕ → After Arm
+abbrev pub struck_auxiliary♯ : ℕ → Mark → ℕ → ℕ → ℕ → List ℕ → After (Option Arm)
 struck_auxiliary♯ capacity m s base name xs = arm_only (auxiliary_strike♯ base capacity m s name xs)
 
 -- the node over two trees is written, with its auxiliary tree
-unfoldable pub main_node_over : Arm → Writing
-main_node_over x name l r rebuilt first xs =
-    if eqb x.weight 0 then after no_strike xs
-    else after (strike_of (over_arm name l r) rebuilt first) (put_arm (put_record xs (main_place name) l r) (auxiliary_place name) x)
+abbrev pub main_node_over : Option Arm → Writing
+main_node_over None name l r rebuilt first xs = after no_strike xs
+main_node_over (Some x) name l r rebuilt first xs =
+    after (strike_of (over_arm name l r) rebuilt first) (put_arm (put_record xs (main_place name) l r) (auxiliary_place name) x)
 
 -- a node that is not balanced with one mark less: the struck leaf's sibling takes its place, or it is built afresh
-unfoldable pub main_strike_here : ℕ → ℕ → ℕ → Way → MainStriking
+abbrev pub main_strike_here : ℕ → ℕ → ℕ → Way → MainStriking
 main_strike_here capacity s name v base w n xs =
     if eqb v.child.weight 1 then lifted♯ capacity base v.sibling (first_left v.left name) xs else struck_afresh♯ capacity s base w n xs
 
 -- the node's auxiliary tree is struck and then the child on the mark's way, or the node itself
-unfoldable pub main_child : MainStriking → ℕ → Mark → ℕ → ℕ → Way → MainStriking
+abbrev pub main_child : MainStriking → ℕ → Mark → ℕ → ℕ → Way → MainStriking
 main_child rec capacity m s name v base w n xs =
     if is_heavy (v.child.weight - 1) v.sibling.weight
-    then (let x : After Arm = struck_auxiliary♯ capacity m s base name xs in
+    then (let x : After (Option Arm) = struck_auxiliary♯ capacity m s base name xs in
     strike_over (main_node_over x.out) capacity s name v (rec (deeper base capacity) v.child.weight v.child.node x.words))
     else main_strike_here capacity s name v base w n xs
 
 -- children whose weights are not the node's are damage
-unfoldable pub main_strike_way : MainStriking → ℕ → Mark → ℕ → ℕ → Way → MainStriking
+abbrev pub main_strike_way : MainStriking → ℕ → Mark → ℕ → ℕ → Way → MainStriking
 main_strike_way rec capacity m s name v base w n xs =
     if not (eqb (v.child.weight + v.sibling.weight) w) then after no_strike xs else main_child rec capacity m s name v base w n xs
 
 -- a node of no slot is damage
-unfoldable pub main_strike_node : MainStriking → ℕ → Mark → ℕ → MainStriking
+abbrev pub main_strike_node : MainStriking → ℕ → Mark → ℕ → MainStriking
 main_strike_node rec capacity m s base w n xs =
     if leb capacity (n / 2) then after no_strike xs
     else main_strike_way rec capacity m s (n / 2) (way_at along_x main_place m (n / 2) xs) base w n xs
@@ -81,10 +82,10 @@ strike_beneath♯-suc zero h capacity m s base w n xs = absurd (h refl)
 strike_beneath♯-suc (suc f) h capacity m s base w n xs = let e : suc f - 1 ≡ f = omega arith in rw e
 
 -- the arm left goes to the root
-unfoldable pub put_struck : After Strike → After ℕ
+abbrev pub put_struck : After Strike → After ℕ
 put_struck p = if eqb p.out.arm.weight 0 then after damaged p.words else after p.out.rebuilt (put_arm p.words root_place p.out.arm)
 
-unfoldable pub strike_root : Mark → ℕ → ℕ → Arm → List ℕ → After ℕ
+abbrev pub strike_root : Mark → ℕ → ℕ → Arm → List ℕ → After ℕ
 strike_root m s capacity a xs =
     if eqb (a.node % 2) 0 then after 0 (put_arm xs root_place no_arm)
     else put_struck (strike_beneath♯ deepest capacity m s (top_level capacity) a.weight a.node xs)

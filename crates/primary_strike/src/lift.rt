@@ -3,39 +3,40 @@ ghost use Rattle.std.specs.Prelude.{◌≡◌, ◌≤◌, length};
 ghost use Rattle.table.specs.Layout.{runs_end};
 ghost use Rattle.primary_strike.specs.Lift.{lift♯};
 
-use nodes::primary::{Primary, PrimaryRecord};
-use nodes::secondary::SecondaryRecord;
+use nodes::arm::Node;
+use nodes::primary::Primary;
+use nodes::record::Record;
+use nodes::secondary::Secondary;
 use table::limits;
 use twofold_layout::levels;
 
-// Copies the auxiliary trees beneath a node, the root's from one level to another, and each deeper one to the level that was above it. What is beneath a node
+// Copies the auxiliary trees beneath a node, the root's from one level to that which begins at `to`, and each deeper one to the level that
+// was above it. What is beneath a node
 // of no slot, or in levels that are not there, stays as it is.
-pub fn lift(t: &mut [u32], from: u32, to: u32, capacity: u32, node: Primary, fuel: u32)
-    requires { runs_end capacity ≤ length t.old }
-    ensures { t.new ≡ lift♯ fuel capacity from to node.0 t.old }
+pub fn lift(t: &mut [u32], from: Secondary, to: u32, node: Node<Primary>, fuel: u32)
+    requires { runs_end from.capacity ≤ length t.old }
+    ensures { t.new ≡ lift♯ fuel from.capacity from.base to node.0 t.old }
 {
     if fuel == 0 {
         return;
     }
-    if node.is_leaf() {
-        return;
-    }
     let name = node.slot();
-    if capacity <= name {
+    if node.is_leaf() || from.capacity <= name {
         return;
     }
-    if SecondaryRecord::lacks_level(t, from, capacity) {
+    if from.lacks_level(t) || (Secondary { base: to, ..from }).lacks_level(t) {
         return;
     }
-    if SecondaryRecord::lacks_level(t, to, capacity) {
-        return;
-    }
-    let p = PrimaryRecord::load(t, name);
-    let l = p.left;
-    let r = p.right;
-    let root = PrimaryRecord::load_auxiliary(t, name);
-    secondary_build::copy::copy(t, from, to, capacity, root.node, limits::SIBLING_DEEPEST);
-    let below = levels::deeper(from, capacity);
-    lift(t, below, from, capacity, l.node, fuel - 1);
-    lift(t, below, from, capacity, r.node, fuel - 1);
+    let tree = Primary {
+        capacity: from.capacity,
+    };
+    let Record { left, right } = Record::load(t, tree, name);
+    let root = Primary::load_auxiliary(t, name);
+    secondary_build::copy::copy(t, from, to, root.node, limits::SIBLING_DEEPEST);
+    let below = Secondary {
+        base: levels::deeper(from.base, from.capacity),
+        ..from
+    };
+    lift(t, below, from.base, left.node, fuel - 1);
+    lift(t, below, from.base, right.node, fuel - 1);
 }

@@ -2,222 +2,221 @@
 ghost use Rattle.std.specs.Prelude.{◌≡◌, ◌+◌, ◌<◌, ◌≤◌, length};
 ghost use Rattle.geometry.specs.Values.{mark_value};
 ghost use Rattle.table.specs.After.{after};
-ghost use Rattle.table.specs.Layout.{slot_width, slot_place, runs_end};
-ghost use Rattle.nodes.specs.Values.{primary_arm, primary_way, secondary_arm};
+ghost use Rattle.table.specs.Damage.{figure_of};
+ghost use Rattle.table.specs.Layout.{slot_width, slot_place, main_place, auxiliary_place, runs_end};
+ghost use Rattle.nodes.specs.Arms.{over_arm, put_arm, put_record};
+ghost use Rattle.nodes.specs.Values.{arm_value, way_value};
 ghost use Rattle.secondary_update.specs.Strike.{strike_over};
-ghost use Rattle.secondary_update.specs.Updates.{strike_of, no_strike};
+ghost use Rattle.secondary_update.specs.Values.{struck_value, strike_outcome};
 ghost use Rattle.primary_strike.specs.Strike.{lifted♯, struck_afresh♯, struck_auxiliary♯, main_node_over, main_strike_here, strike_beneath♯};
 ghost use Rattle.primary_strike.specs.Strike.{main_strike♯};
-ghost use Rattle.primary_strike.specs.Values.{main_struck_value};
+ghost use Rattle.primary_strike.specs.Values.{auxiliary_outcome};
 
 use crate::lift;
 use geometry::Mark;
-use nodes::primary::{Primary, PrimaryArm, PrimaryRecord, PrimaryWay};
-use nodes::secondary::SecondaryArm;
+use nodes::arm::{Arm, Node};
+use nodes::primary::Primary;
+use nodes::record::{Record, Way};
+use nodes::secondary::Secondary;
 use nodes::{arm, weights};
+use secondary_update::strike::Struck;
+use table::damage::Damaged;
 use table::{layout, limits};
 use twofold_layout::levels;
 
-// What a strike leaves of a main tree: its arm, the weight of the node built afresh, or 0, and its least slot where the struck one was the least. Weight
-// 0 of the arm: the words hold no tree.
-#[derive(Clone, Copy)]
-pub struct Struck {
-    pub arm: PrimaryArm,
-    pub rebuilt: u32,
-    pub first: u32,
-}
-
-fn answer(arm: PrimaryArm, rebuilt: u32, first: u32) -> Struck
-    ensures { main_struck_value result ≡ strike_of (primary_arm arm) rebuilt first }
+// The sibling of the struck leaf, in the place of their parent, whose level is given.
+fn lifted(t: &mut [u32], level: Secondary, sibling: Arm<Primary>, first: u32) -> Struck<Primary>
+    requires { runs_end level.capacity ≤ length t.old }
+    ensures { after (struck_value result) t.new ≡ lifted♯ level.capacity level.base (arm_value sibling) first t.old }
 {
+    let below = Secondary {
+        base: levels::deeper(level.base, level.capacity),
+        ..level
+    };
+    lift::lift(t, below, level.base, sibling.node, limits::SIBLING_DEEPEST);
     Struck {
-        arm,
-        rebuilt,
+        arm: sibling,
+        rebuilt: 0,
         first,
     }
-}
-
-fn damaged() -> Struck
-    ensures { main_struck_value result ≡ no_strike }
-{
-    let arm = PrimaryArm::none();
-    Struck {
-        arm,
-        rebuilt: 0,
-        first: 0,
-    }
-}
-
-// The sibling of the struck leaf, in the place of their parent, whose level begins at base.
-fn lifted(t: &mut [u32], base: u32, capacity: u32, sibling: PrimaryArm, first: u32) -> Struck
-    requires { runs_end capacity ≤ length t.old }
-    ensures { after (main_struck_value result) t.new ≡ lifted♯ capacity base (primary_arm sibling) first t.old }
-{
-    let node = sibling.node;
-    let from = levels::deeper(base, capacity);
-    lift::lift(t, from, base, capacity, node, limits::SIBLING_DEEPEST);
-    answer(sibling, 0, first)
 }
 
 // Builds the tree of a node of that weight afresh without the slot s.
 fn strike_afresh(
     t: &mut [u32],
-    base: u32,
-    capacity: u32,
-    node: Primary,
+    level: Secondary,
+    node: Node<Primary>,
     weight: u32,
     s: u32,
-) -> Struck
-    requires { (0 < capacity) × (runs_end capacity ≤ length t.old) }
-    ensures { after (main_struck_value result) t.new ≡ struck_afresh♯ capacity s base weight node.0 t.old }
+) -> Result<Struck<Primary>, Damaged>
+    requires { (0 < level.capacity) × (runs_end level.capacity ≤ length t.old) }
+    ensures { after (strike_outcome result) t.new ≡ struck_afresh♯ level.capacity s level.base weight node.0 t.old }
 {
     let many = weights::fewer(weight);
-    let fresh = primary_build::build::rebuild(t, base, capacity, node, weight, s, many);
-    answer(fresh.arm, many, fresh.first)
+    let fresh = primary_build::build::rebuild(t, level, node, weight, s, many)?;
+    Ok(Struck {
+        arm: fresh.arm,
+        rebuilt: many,
+        first: fresh.first,
+    })
 }
 
 // Strikes the mark m of slot s from the auxiliary tree of the main node of that name; gives the arm that is left.
 fn strike_auxiliary(
     t: &mut [u32],
-    base: u32,
-    capacity: u32,
+    level: Secondary,
     name: u32,
     m: Mark,
     s: u32,
-) -> SecondaryArm
-    requires { (name < capacity) × (runs_end capacity ≤ length t.old) }
-    ensures { after (secondary_arm result) t.new ≡ struck_auxiliary♯ capacity (mark_value m) s base name t.old }
+) -> Result<Arm<Secondary>, Damaged>
+    requires { (name < level.capacity) × (runs_end level.capacity ≤ length t.old) }
+    ensures { after (auxiliary_outcome result) t.new ≡ struck_auxiliary♯ level.capacity (mark_value m) s level.base name t.old }
 {
-    let u = secondary_update::strike::strike(t, base, capacity, name, m, s);
-    u.arm
+    let u = secondary_update::strike::strike(t, level, name, m, s)?;
+    Ok(u.arm)
 }
 
 // Writes the main node of that name over l and r, with its auxiliary tree.
 fn node_over(
     t: &mut [u32],
+    tree: Primary,
     name: u32,
-    l: PrimaryArm,
-    r: PrimaryArm,
-    auxiliary: SecondaryArm,
-    rebuilt: u32,
-    first: u32,
-) -> Struck
+    l: Arm<Primary>,
+    r: Arm<Primary>,
+    auxiliary: Arm<Secondary>,
+) -> Arm<Primary>
     requires { slot_place name + slot_width ≤ length t.old }
-    ensures { after (main_struck_value result) t.new
-        ≡ main_node_over (secondary_arm auxiliary) name (primary_arm l) (primary_arm r) rebuilt first t.old }
+    ensures { after (arm_value result) t.new
+        ≡ after (over_arm name (arm_value l) (arm_value r))
+        (put_arm (put_record t.old (main_place name) (arm_value l) (arm_value r)) (auxiliary_place name) (arm_value auxiliary)) }
 {
-    if auxiliary.weight == 0 {
-        return damaged();
-    }
-    PrimaryRecord::store(t, name, l, r);
-    PrimaryRecord::store_auxiliary(t, name, auxiliary);
-    answer(PrimaryArm::over(name, l, r), rebuilt, first)
+    Record::store(t, tree, name, l, r);
+    Primary::store_auxiliary(t, name, auxiliary);
+    Arm::over(name, l, r)
 }
 
-// Writes the node over what the strike left of the child on the mark's way, which is to have lost one mark, and the other child.
+// Writes the node over what the strike left of the child on the mark's way, which is to have lost one mark, and the other child. A child of one mark is to
+// leave no tree, as damage does.
 fn strike_over(
     t: &mut [u32],
-    capacity: u32,
+    tree: Primary,
     name: u32,
     s: u32,
-    v: PrimaryWay,
-    auxiliary: SecondaryArm,
-    u: Struck,
-) -> Struck
-    requires { (name < capacity) × (runs_end capacity ≤ length t.old) }
-    ensures { after (main_struck_value result) t.new
-        ≡ strike_over (main_node_over (secondary_arm auxiliary)) capacity s name (primary_way v) (after (main_struck_value u) t.old) }
+    v: Way<Primary>,
+    auxiliary: Result<Arm<Secondary>, Damaged>,
+    u: Result<Struck<Primary>, Damaged>,
+) -> Result<Struck<Primary>, Damaged>
+    requires { (name < tree.capacity) × (runs_end tree.capacity ≤ length t.old) }
+    ensures { after (strike_outcome result) t.new
+        ≡ strike_over (main_node_over (auxiliary_outcome auxiliary)) tree.capacity s name (way_value v) (after (strike_outcome u) t.old) }
 {
-    let struck = u.arm;
-    let child = v.child;
-    let sibling = v.sibling;
-    if struck.weight == weights::fewer(child.weight) {
-        if v.left {
-            return node_over(t, name, struck, sibling, auxiliary, u.rebuilt, u.first);
-        }
-        let named = arm::renamed(capacity, name, s, u.first);
-        return node_over(t, named, sibling, struck, auxiliary, u.rebuilt, 0);
+    let Struck {
+        arm,
+        rebuilt,
+        first,
+    } = u.unwrap_or(Struck {
+        arm: Arm::none(),
+        rebuilt: 0,
+        first: 0,
+    });
+    if arm.weight != weights::fewer(v.child.weight) {
+        return Err(Damaged);
     }
-    damaged()
+    let auxiliary = auxiliary?;
+    if v.left {
+        return Ok(Struck {
+            arm: node_over(t, tree, name, arm, v.sibling, auxiliary),
+            rebuilt,
+            first,
+        });
+    }
+    let named = arm::renamed(tree.capacity, name, s, first);
+    Ok(Struck {
+        arm: node_over(t, tree, named, v.sibling, arm, auxiliary),
+        rebuilt,
+        first: 0,
+    })
 }
 
 // Strikes at a node that is not balanced with one mark less: the struck leaf's sibling takes its place, or it is built afresh without the slot s.
 fn strike_here(
     t: &mut [u32],
-    base: u32,
-    capacity: u32,
-    node: Primary,
+    level: Secondary,
+    node: Node<Primary>,
     weight: u32,
     name: u32,
-    v: PrimaryWay,
+    v: Way<Primary>,
     s: u32,
-) -> Struck
-    requires { (0 < capacity) × (runs_end capacity ≤ length t.old) }
-    ensures { after (main_struck_value result) t.new ≡ main_strike_here capacity s name (primary_way v) base weight node.0 t.old }
+) -> Result<Struck<Primary>, Damaged>
+    requires { (0 < level.capacity) × (runs_end level.capacity ≤ length t.old) }
+    ensures { after (strike_outcome result) t.new ≡ main_strike_here level.capacity s name (way_value v) level.base weight node.0 t.old }
 {
-    let child = v.child;
-    let sibling = v.sibling;
-    if child.weight == 1 {
-        return lifted(t, base, capacity, sibling, arm::first_left(v.left, name));
+    if v.child.weight == 1 {
+        return Ok(lifted(t, level, v.sibling, arm::first_left(v.left, name)));
     }
-    strike_afresh(t, base, capacity, node, weight, s)
+    strike_afresh(t, level, node, weight, s)
 }
 
-// Strikes the mark m of slot s beneath an inner node of that number and weight, whose level begins at base. A node of no slot is damage, and so is a child that
-// does not lose one mark.
+// Strikes the mark m of slot s beneath an inner node of that number and weight, whose level is given. A node of no slot is damage, and so is a child that
+// does not lose one mark. Where the auxiliary tree is damaged the child is struck all the same: which words damage leaves is told too.
 fn strike_beneath(
     t: &mut [u32],
-    base: u32,
-    capacity: u32,
-    node: Primary,
+    level: Secondary,
+    node: Node<Primary>,
     weight: u32,
     m: Mark,
     s: u32,
     fuel: u32,
-) -> Struck
-    requires { runs_end capacity ≤ length t.old }
-    ensures { after (main_struck_value result) t.new
-        ≡ strike_beneath♯ fuel capacity (mark_value m) s base weight node.0 t.old }
+) -> Result<Struck<Primary>, Damaged>
+    requires { runs_end level.capacity ≤ length t.old }
+    ensures { after (strike_outcome result) t.new ≡ strike_beneath♯ fuel level.capacity (mark_value m) s level.base weight node.0 t.old }
 {
     if fuel == 0 {
-        return damaged();
+        return Err(Damaged);
     }
     let name = node.slot();
-    if capacity <= name {
-        return damaged();
+    let tree = Primary {
+        capacity: level.capacity,
+    };
+    if tree.capacity <= name {
+        return Err(Damaged);
     }
-    let v = PrimaryRecord::way(t, name, m);
+    let v = Record::way(t, tree, name, m);
     let child = v.child;
     let sibling = v.sibling;
     if weights::disagree(child.weight, sibling.weight, weight) {
-        return damaged();
+        return Err(Damaged);
     }
     if weights::stays_balanced(child.weight, sibling.weight) {
-        let x = strike_auxiliary(t, base, capacity, name, m, s);
-        let next = levels::deeper(base, capacity);
-        let u = strike_beneath(t, next, capacity, child.node, child.weight, m, s, fuel - 1);
-        return strike_over(t, capacity, name, s, v, x, u);
+        let x = strike_auxiliary(t, level, name, m, s);
+        let below = Secondary {
+            base: levels::deeper(level.base, level.capacity),
+            ..level
+        };
+        let u = strike_beneath(t, below, child.node, child.weight, m, s, fuel - 1);
+        return strike_over(t, tree, name, s, v, x, u);
     }
-    strike_here(t, base, capacity, node, weight, name, v, s)
+    strike_here(t, level, node, weight, name, v, s)
 }
 
 // Strikes the mark m of slot s; gives the weight of the main node built afresh, or 0. Striking a lone leaf leaves no tree.
-pub fn strike(t: &mut [u32], capacity: u32, m: Mark, s: u32) -> u32
+pub fn strike(t: &mut [u32], capacity: u32, m: Mark, s: u32) -> Result<u32, Damaged>
     requires { runs_end capacity ≤ length t.old }
-    ensures { after result t.new ≡ main_strike♯ capacity (mark_value m) s t.old }
+    ensures { after (figure_of result) t.new ≡ main_strike♯ capacity (mark_value m) s t.old }
 {
-    let root = PrimaryArm::load(t, layout::ROOT);
-    let node = root.node;
-    if node.is_leaf() {
-        PrimaryArm::store(t, layout::ROOT, PrimaryArm::none());
-        return 0;
+    let root: Arm<Primary> = Arm::load(t, layout::ROOT);
+    if root.node.is_leaf() {
+        Arm::store(t, layout::ROOT, Arm::<Primary>::none());
+        return Ok(0);
     }
-    let top = levels::top(capacity);
-    let u = strike_beneath(t, top, capacity, node, root.weight, m, s, limits::DEEPEST);
-    let a = u.arm;
-    if a.weight == 0 {
-        return limits::DAMAGED;
+    let top = Secondary {
+        base: levels::top(capacity),
+        capacity,
+    };
+    let u = strike_beneath(t, top, root.node, root.weight, m, s, limits::DEEPEST)?;
+    if u.arm.weight == 0 {
+        return Err(Damaged);
     }
-    PrimaryArm::store(t, layout::ROOT, a);
-    u.rebuilt
+    Arm::store(t, layout::ROOT, u.arm);
+    Ok(u.rebuilt)
 }

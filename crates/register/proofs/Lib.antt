@@ -1,4 +1,5 @@
 -- The table's own words, and the branches of the code; what each call performs; then the history, one theorem over every run.
+pub mod Steps
 pub mod Own
 pub mod Branches
 pub mod Performing

@@ -1,10 +1,9 @@
 -- The table's own words, W(C) of those lent: where they are, and what stands in them and beyond. Assumes nothing.
-use Prim.Native.Nat.{ℕ, ◌-◌, ◌≤◌, ◌<◌}
-use mathlib.Core.Path.{◌≡◌, refl, sym, ap, ◌∙◌}
+use Prim.Native.Nat.{ℕ, ◌≤◌, ◌<◌}
+use mathlib.Core.Path.{◌≡◌, sym, ap, ◌∙◌}
 use mathlib.Core.Bool.{true, false}
 use mathlib.Core.List.{List, ◌++◌}
 use native.Mathlib.Omega.{arith}
-use native.Mathlib.Nat.{sub-zero}
 use lib.Dec.{eqb, ltb}
 use lib.ListN.{length, get_or, take, drop, length-take, take-append-drop, get_or-append}
 use lib.Seq.{get_or-take, length-take-le, take_at}
@@ -17,9 +16,11 @@ use Rattle.model.proofs.Sizes.{capacity-small}
 use Rattle.table.specs.Layout.{open_place, capacity_place, live_place, runs_end}
 use Rattle.nodes.proofs.Levels.{W-words}
 use Rattle.twofold_layout.specs.Sound.{Holding}
-use Rattle.table.specs.Header.{capacity_of, live_of, OfCapacity, not_table, own_words}
+use Rattle.table.specs.Header.{capacity_of, live_of, not_table, own_words, HeaderOf}
 use Rattle.twofold_layout.proofs.Sound.{live-within}
-use Rattle.table.proofs.Own.{own-table, table-own}
+use Rattle.table.specs.declared.header.Header.{Header}
+use Rattle.table.proofs.Own.{own-table, table-own, own-visits-few}
+use Rattle.register.specs.Mirrors.{OfHeader}
 use Rattle.register.specs.Performs.{own}
 
 pub own-fits : (xs : List ℕ) → own_words xs ≤ length xs
@@ -44,10 +45,10 @@ open-needs c lent n e =
 pub open-fits : (c lent n : ℕ) → open_table c lent ≡ accepted n → n ≤ lent
 open-fits c lent n e = omega (arith, (open-needs c lent n e).1, (open-needs c lent n e).2)
 
-pub open-room : (c n : ℕ) (xs : List ℕ) → open_table c (length xs) ≡ accepted n → runs_end c ≤ length (take (n - 0) xs)
+pub open-room : (c n : ℕ) (xs : List ℕ) → open_table c (length xs) ≡ accepted n → runs_end c ≤ length (take n xs)
 open-room c n xs e =
     let k = open-needs c (length xs) n e in
-    rw (sub-zero n) (omega (arith, length-take-le n xs (omega (arith, k.1, k.2)), k.1, W-words c))
+    omega (arith, length-take-le n xs (omega (arith, k.1, k.2)), k.1, W-words c)
 
 -- where 3 does not apply
 
@@ -94,21 +95,29 @@ module _ (xs : List ℕ) where
       omega (arith, k.0, k.1)
 
 -- the own words as the code lends them: those of a table of the capacity that the header says, and no more marks are live than the largest capacity
-module _ (xs : List ℕ) (n : ℕ) (is : n ≡ own_words xs) (some : n ≡ 0 → ⊥) where
-  table : own_words xs ≡ 0 → ⊥
-  table z = some (is ∙ z)
+module _ {xs : List ℕ} {h : Header} (o : HeaderOf xs h) where
+  pub part-some : own_words xs ≡ 0 → ⊥
+  part-some z = o.some (o.words ∙ z)
 
-  part-own : take (n - 0) xs ≡ own xs
-  part-own = ap (λ n. take n xs) (sub-zero n ∙ is) ∙ own_is xs table
+  pub part-own : take h.words xs ≡ own xs
+  part-own = ap (λ n. take n xs) o.words ∙ own_is xs part-some
 
-  pub part-capacity : (capacity : ℕ) → capacity ≡ capacity_of xs → OfCapacity capacity (take (n - 0) xs)
-  part-capacity capacity e =
-      rw (part-own, own-capacity xs, own-length xs table, ← e) (refl, omega (arith, W-words capacity))
+  pub part-fits : h.words ≤ length xs
+  part-fits = omega (arith, o.words, own-fits xs)
 
-  pub part-live : (live : ℕ) → live ≡ live_of xs → (live ≡ live_of (take (n - 0) xs)) × (live ≤ 65536)
-  part-live live e =
-      let k = own-table xs table in
-      rw part-own (e ∙ sym (own-live xs), omega (arith, k.2, capacity-small (capacity_of xs) k.1))
+  pub part-length : h.words ≡ length (take h.words xs)
+  part-length = sym (length-take-le h.words xs part-fits)
+
+  pub part-header : OfHeader h (take h.words xs)
+  part-header =
+      let k = own-table xs part-some in
+      rw part-own (record {
+        capacity = (o.capacity ∙ sym (own-capacity xs), omega (arith, W-words h.capacity, own-length xs part-some, ap W o.capacity));
+        small = omega (arith, o.capacity, capacity-small (capacity_of xs) k.1);
+        live = o.live ∙ sym (own-live xs);
+        few = omega (arith, k.2, o.live, o.capacity);
+        visits = omega (arith, o.visits, own-visits-few xs);
+      })
 
 -- words that hold a tree, with others behind them: the own words are those that hold it
 module _ {ws : List ℕ} {T : Main} (h : Holding ws T) (rest : List ℕ) where

@@ -1,12 +1,11 @@
 -- The calls that only read the table: count and check. Assumes nothing.
 use Rattle.std.specs.Prelude.{if◌then◌else◌}
-use Prim.Native.Nat.{ℕ, ◌-◌, ◌≤◌, ◌<◌}
+use Prim.Native.Nat.{ℕ, ◌≤◌, ◌<◌}
 use mathlib.Core.Path.{◌≡◌, refl, sym, ap, subst, ◌∙◌}
 use mathlib.Core.Logic.{◌≢◌, ◌⊎◌, inl, inr}
 use mathlib.Core.Bool.{Bool, true, false}
 use mathlib.Core.List.{List, []}
 use native.Mathlib.Omega.{arith}
-use native.Mathlib.Nat.{sub-zero}
 use lib.Dec.{eqb, ltb}
 use lib.ListN.{length, take}
 use borrow.Author.Tests.{eqb-true, eqb-false, ltb-true, ltb-false}
@@ -17,20 +16,22 @@ use Rattle.model.specs.Refusals.{enter_box}
 use Rattle.model.specs.History.{Call, State, Answer, refusal, updated, counted, answer, next}
 use Rattle.model.specs.History as history
 use Rattle.model.proofs.Logic.{by_cases}
-use Rattle.table.specs.Limits.{damaged}
+use Rattle.std.proofs.Common.{Result, Ok, Err}
+use Rattle.table.specs.declared.damage.Damaged.{Damaged}
 use Rattle.model.proofs.Lists.{count_if-length}
 use Rattle.sizes.specs.Sizes.{visits_within}
 use Rattle.table.specs.Figures.{found_in, visits_in}
 use Rattle.twofold_layout.specs.Sound.{Holding, SoundTable}
-use Rattle.table.specs.Header.{capacity_of, live_of, own_words, own_visits}
+use Rattle.table.specs.Header.{capacity_of, live_of, own_words, own_visits, HeaderOf}
 use Rattle.primary_search.specs.Count.{main_count♯}
-use Rattle.whole_table.proofs.Searching.{holding-within, holding-small, count-within, count-found, count-visited, count-sum, count-worst}
+use Rattle.whole_table.proofs.Searching.{count-within, count-found, count-visited, count-sum, count-worst}
 use Rattle.checking.specs.Verdict.{Verdict}
 use Rattle.checking.specs.Verdict as verdict
 use Rattle.table.proofs.Own.{own-most}
 use Rattle.register.specs.Performs.{alone, early, own, sum_by, worst_by, CountsTo, Later, counts, sound, unsound, state_of, Performs}
 use Rattle.register.specs.Mirrors.{or_number, tallied, count_own♯, count♯}
-use Rattle.register.proofs.Own.{own-none, own-some, own-capacity, own_is, sound-table}
+use Rattle.table.specs.declared.header.Header.{Header}
+use Rattle.register.proofs.Own.{own-none, own-some, own-capacity, own_is, sound-table, part-own, part-some}
 use Rattle.register.proofs.Performing.{no-lists, performs-kept, refused-early, refused-later}
 
 module _ (xs : List ℕ) (b : Box) (fine : box_crossed b ≡ false) (T : Main) (h : Holding (own xs) T) where
@@ -125,13 +126,13 @@ module _ (b : Box) (xs : List ℕ) where
 -- CHECK
 
 -- of words that the check calls damaged no tree is sound, and of others it gives the marks
-verdict-unsound : {zs : List ℕ} {v : ℕ} → Verdict zs v → v ≡ damaged → SoundTable zs → ⊥
-verdict-unsound {zs = zs} (verdict.sound {T = T} h) e = absurd (omega (arith, holding-within zs T h, holding-small zs T h))
-verdict-unsound (verdict.unsound wrong) e = wrong
+verdict-unsound : {zs : List ℕ} {v : Result ℕ Damaged} → Verdict zs v → (d : Damaged) → v ≡ Err d → SoundTable zs → ⊥
+verdict-unsound (verdict.sound h) d e = cc
+verdict-unsound (verdict.unsound wrong) d e = wrong
 
-verdict-sound : {zs : List ℕ} {v : ℕ} → Verdict zs v → v ≢ damaged → (T : Main) × Holding zs T × (v ≡ length (marks_of T))
-verdict-sound (verdict.sound {T = T} h) ne = (T, h, refl)
-verdict-sound (verdict.unsound wrong) ne = absurd (ne refl)
+verdict-sound : {zs : List ℕ} {v : Result ℕ Damaged} → Verdict zs v → (n : ℕ) → v ≡ Ok n → (T : Main) × Holding zs T × (n ≡ length (marks_of T))
+verdict-sound (verdict.sound {T = T} h) n e = (T, h, cc)
+verdict-sound (verdict.unsound wrong) n e = cc
 
 module _ (xs : List ℕ) where
   pub check-not-table : own_words xs ≡ 0 → Performs history.check (alone xs) (alone xs) (refusal 3 0)
@@ -139,27 +140,24 @@ module _ (xs : List ℕ) where
   check-not-table z =
       refused-early history.check (alone xs) 3 0 (omega arith) (λ z. refl) tt (λ T h. absurd (sound-table xs h z)) (rw (own-none xs z)) refl
 
-  module _ (n : ℕ) (is : n ≡ own_words xs) (some : n ≡ 0 → ⊥) (v : ℕ) (says : Verdict (take (n - 0) xs) v) where
-    table : own_words xs ≡ 0 → ⊥
-    table z = some (is ∙ z)
-
-    own-says : Verdict (own xs) v
-    own-says = subst (λ l. Verdict l v) (ap (λ k. take k xs) (sub-zero n ∙ is) ∙ own_is xs table) says
+  module _ {h : Header} (o : HeaderOf xs h) where
+    own-says : {v : Result ℕ Damaged} → Verdict (take h.words xs) v → Verdict (own xs) v
+    own-says {v = v} says = subst (λ l. Verdict l v) (part-own o) says
 
     check-row : early history.check xs ≡ 0
     unfolding early
-    check-row = rw (own-some xs table)
+    check-row = rw (own-some xs (part-some o))
 
-    pub check-unsound : v ≡ damaged → Performs history.check (alone xs) (alone xs) (refusal 4 0)
-    check-unsound e =
-        let wrong = verdict-unsound own-says e in
+    pub check-unsound : (d : Damaged) → Verdict (take h.words xs) (Err d) → Performs history.check (alone xs) (alone xs) (refusal 4 0)
+    check-unsound d says =
+        let wrong = verdict-unsound (own-says says) d refl in
         refused-later history.check (alone xs) 4 0 (omega arith) (λ z. refl) tt (λ T h. absurd (wrong (record { tree = T; holding = h }))) check-row
         (unsound refl wrong)
 
-    pub check_sound : v ≢ damaged → Performs history.check (alone xs) (alone xs) (updated v 0)
-    check_sound ne =
-        let k = verdict-sound own-says ne in
-        performs-kept history.check xs [] [] [] [] (updated v 0) (λ z. refl) tt (λ z. absurd (z check-row))
+    pub check_sound : (n : ℕ) → Verdict (take h.words xs) (Ok n) → Performs history.check (alone xs) (alone xs) (updated n 0)
+    check_sound n says =
+        let k = verdict-sound (own-says says) n refl in
+        performs-kept history.check xs [] [] [] [] (updated n 0) (λ z. refl) tt (λ z. absurd (z check-row))
         (λ z. subst (λ n. Later xs history.check (updated n 0)) (sym k.2) (sound k.1))
-        (no-lists (updated v 0) xs xs [] [] refl) (λ z. tt)
+        (no-lists (updated n 0) xs xs [] [] refl) (λ z. tt)
         (λ T h. (ap (λ n. updated n 0) (k.2 ∙ sym k.1.live ∙ h.live), refl))

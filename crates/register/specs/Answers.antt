@@ -1,19 +1,51 @@
--- Document 01's number and figures for each case of an answer ("Where each call may stop": a refusal gives "0 for every other figure; number 10 also
+-- Document 01's number and figures for each answer of a call ("Where each call may stop": a refusal gives "0 for every other figure; number 10 also
 -- returns k"), as the history's record of figures. Assumes nothing.
-use Rattle.std.specs.Prelude.{ℕ, List, [], eqb, if◌then◌else◌}
+use Rattle.std.specs.Prelude.{ℕ, List, [], eqb, if◌then◌else◌, Result, Ok, Err}
 use Rattle.model.specs.Sheet.{Mark}
 use Rattle.model.specs.History.{Answer, refusal, updated, counted}
 use Rattle.table.specs.Marks.{list_marks}
-use Rattle.register.specs.declared.answers.Opening.{Opening}
-use Rattle.register.specs.declared.answers.Opening.TheVariants as opening
-use Rattle.register.specs.declared.answers.Update.{Update}
-use Rattle.register.specs.declared.answers.Update.TheVariants as update
-use Rattle.register.specs.declared.answers.Count.{Count}
-use Rattle.register.specs.declared.answers.Count.TheVariants as count
-use Rattle.register.specs.declared.answers.Listing.{Listing}
-use Rattle.register.specs.declared.answers.Listing.TheVariants as listing
-use Rattle.register.specs.declared.answers.Check.{Check}
-use Rattle.register.specs.declared.answers.Check.TheVariants as check
+use Rattle.sorting.specs.Values.{list_number}
+use Rattle.geometry.specs.declared.MarkError.{MarkError}
+use Rattle.geometry.specs.declared.MarkError.TheVariants as mark_error
+use Rattle.sizes.specs.declared.Misfit.{Misfit}
+use Rattle.sizes.specs.declared.Misfit.TheVariants as misfit
+use Rattle.register.specs.declared.refusal.Refusal.{Refusal}
+use Rattle.register.specs.declared.refusal.Refusal.TheVariants as refusals
+use Rattle.register.specs.declared.answers.Updated.{Updated}
+use Rattle.register.specs.declared.answers.Counted.{Counted}
+use Rattle.register.specs.declared.answers.Listed.{Listed}
+
+-- the number of each refusal, and the k that number 10 returns
+abbrev pub number_of : Refusal → ℕ
+number_of refusals.Capacity = 1
+number_of refusals.ShortTable = 2
+number_of refusals.NotTable = 3
+number_of refusals.Unsound = 4
+number_of refusals.Outside = 5
+number_of refusals.Crossed = 6
+number_of refusals.Full = 7
+number_of refusals.Present = 8
+number_of refusals.Absent = 9
+number_of (refusals.ShortList k) = 10
+number_of refusals.Ungraded = 12
+
+abbrev pub marks_of : Refusal → ℕ
+marks_of (refusals.ShortList k) = k
+marks_of _ = 0
+
+-- of what the crates below refuse
+abbrev pub of_mark : MarkError → Refusal
+of_mark mark_error.Outside = refusals.Outside
+of_mark mark_error.Ungraded = refusals.Ungraded
+
+abbrev pub of_misfit : Misfit → Refusal
+of_misfit misfit.Capacity = refusals.Capacity
+of_misfit misfit.Short = refusals.ShortTable
+
+-- what a call answers, by what it was accepted with; a list's refusal has a figure besides
+abbrev pub answer_of : {A : Type 0} → (A → Answer) → Result A Refusal → Answer
+answer_of f (Ok a) = f a
+answer_of f (Err e) = refusal (number_of e) 0
 
 -- the answer that a number and its figures stand for: of open and check, of an update, of a count
 abbrev pub update_given : ℕ → ℕ → ℕ → Answer
@@ -26,34 +58,20 @@ abbrev pub count_given : ℕ → ℕ → ℕ → ℕ → ℕ → Answer
 count_given n found v s w = record { number = n; live = 0; rebuilt = 0; k = found; visits = v; sum = s; worst = w; listed = []; which = 0 }
 
 -- open: the table has no marks
-abbrev pub open_answer : Opening → Answer
-open_answer opening.Opened = updated 0 0
-open_answer opening.Capacity = refusal 1 0
-open_answer opening.Short = refusal 2 0
+abbrev pub open_answer : Result Unit Refusal → Answer
+open_answer r = answer_of (λ _. updated 0 0) r
 
 -- insert, strike: live and 'rebuilt'
-abbrev pub update_answer : Update → Answer
-update_answer (update.Done live rebuilt) = updated live rebuilt
-update_answer update.NotTable = refusal 3 0
-update_answer update.Outside = refusal 5 0
-update_answer update.Ungraded = refusal 12 0
-update_answer update.Present = refusal 8 0
-update_answer update.Full = refusal 7 0
-update_answer update.Absent = refusal 9 0
-update_answer update.Unsound = refusal 4 0
+abbrev pub update_answer : Result Updated Refusal → Answer
+update_answer r = answer_of (λ u. updated u.live u.rebuilt) r
 
 -- count: the marks that the box holds, the visits, the sum of their grades and the worst
-abbrev pub count_answer : Count → Answer
-count_answer (count.Counted k visits sum worst) = counted k visits sum worst
-count_answer count.NotTable = refusal 3 0
-count_answer count.Crossed = refusal 6 0
-count_answer count.Unsound = refusal 4 0
+abbrev pub count_answer : Result Counted Refusal → Answer
+count_answer r = answer_of (λ c. counted c.marks c.visits c.sum c.worst) r
 
 -- check: live
-abbrev pub check_answer : Check → Answer
-check_answer (check.Sound live) = updated live 0
-check_answer check.NotTable = refusal 3 0
-check_answer check.Unsound = refusal 4 0
+abbrev pub check_answer : Result ℕ Refusal → Answer
+check_answer r = answer_of (λ live. updated live 0) r
 
 -- list: besides the figures, the marks that stand in one of the two lent lists
 pub record ListFigures : Type 0 where
@@ -65,12 +83,9 @@ pub record ListFigures : Type 0 where
 abbrev pub list_refused : ℕ → ℕ → ListFigures
 list_refused n k = record { number = n; k = k; visits = 0; which = 0 }
 
-abbrev pub list_figures : Listing → ListFigures
-list_figures (listing.Listed k visits which) = record { number = 0; k = k; visits = visits; which = which }
-list_figures listing.NotTable = list_refused 3 0
-list_figures listing.Crossed = list_refused 6 0
-list_figures (listing.Short k) = list_refused 10 k
-list_figures listing.Unsound = list_refused 4 0
+abbrev pub list_figures : Result Listed Refusal → ListFigures
+list_figures (Ok l) = record { number = 0; k = l.marks; visits = l.visits; which = list_number l.which }
+list_figures (Err e) = list_refused (number_of e) (marks_of e)
 
 -- the lent list that `which` names, and the marks that it says are there: none where it is 0
 abbrev pub in_list : ℕ → List ℕ → List ℕ → List ℕ
@@ -92,5 +107,5 @@ list_given f first second = record {
   which = f.which;
 }
 
-abbrev pub list_answer : Listing → List ℕ → List ℕ → Answer
+abbrev pub list_answer : Result Listed Refusal → List ℕ → List ℕ → Answer
 list_answer l first second = list_given (list_figures l) first second

@@ -1,15 +1,16 @@
 -- What the functions of src/ give, step by step, with the mirrors of the crates below. Assumes nothing.
-use Rattle.std.specs.Prelude.{ℕ, ◌+◌, ◌*◌, ◌%◌, ◌≤◌, ◌<◌, ◌≡◌, ◌⊎◌, List}
+use Rattle.std.specs.Prelude.{ℕ, ◌+◌, ◌*◌, ◌%◌, ◌≤◌, ◌<◌, ◌≡◌, ◌⊎◌, List, Some, None, Result, Ok, Err}
 use Rattle.std.specs.Prelude.{◌++◌, ltb, eqb, length, get_or, set, take, drop, if◌then◌else◌}
+use Rattle.model.specs.Sizes.{largest_capacity}
 use Rattle.model.specs.Sheet.{Mark, Box, below_x}
 use Rattle.model.specs.Refusals.{Outcome, accepted, refused, open_table, enter_mark, name_mark, enter_box}
 use Rattle.model.specs.History.{Answer, refusal, updated, counted, which_list}
 use Rattle.table.specs.Layout.{open_place, capacity_place, live_place, list_place}
-use Rattle.table.specs.Limits.{damaged, absent}
+use Rattle.table.specs.Limits.{damaged}
 use Rattle.table.specs.Grades.{sum_of, worst_of}
 use Rattle.table.specs.Figures.{found_in, visits_in, grades_in}
 use Rattle.table.specs.After.{After, after}
-use Rattle.primary_search.specs.Find.{find♯}
+use Rattle.primary_search.specs.Find.{Sought, find♯}
 use Rattle.primary_search.specs.Count.{main_count♯}
 use Rattle.primary_search.specs.List.{main_list♯}
 use Rattle.whole_table.specs.Empty.{empty♯}
@@ -17,7 +18,21 @@ use Rattle.whole_table.specs.Insert.{table_insert♯}
 use Rattle.whole_table.specs.Strike.{table_strike♯}
 use Rattle.table.specs.Header.{own_words, own_visits}
 use Rattle.sorting.specs.Sorted.{SortedIn}
-use Rattle.register.specs.Answers.{ListFigures, list_refused}
+use Rattle.table.specs.declared.header.Header.{Header}
+use Rattle.table.specs.Limits.{most_visits}
+use Rattle.table.specs.Header.{live_of, OfCapacity}
+use Rattle.table.specs.declared.damage.Damaged.{Damaged}
+use Rattle.register.specs.declared.answers.Counted.{Counted}
+use Rattle.register.specs.declared.refusal.Refusal.{Refusal}
+use Rattle.register.specs.Answers.{number_of, ListFigures, list_refused}
+
+-- what a header says of the words of a table
+pub record OfHeader (h : Header) (xs : List ℕ) : Type 0 where
+  pub capacity : OfCapacity h.capacity xs
+  pub small : h.capacity ≤ largest_capacity
+  pub live : h.live ≡ live_of xs
+  pub few : h.live ≤ h.capacity
+  pub visits : h.visits ≤ most_visits
 
 -- the answer beside words of which n were lent on
 unfoldable pub within : ℕ → List ℕ → After Answer → After Answer
@@ -34,26 +49,30 @@ open♯ c xs = on_accepted (open_table c (length xs)) xs (λ n. within n xs (aft
 unfoldable pub closed♯ : List ℕ → After Answer
 closed♯ xs = after (refusal 4 0) (set xs open_place 0)
 
-unfoldable pub settled♯ : ℕ → List ℕ → After Answer
-settled♯ rebuilt xs = if eqb rebuilt damaged then closed♯ xs else after (updated (get_or xs live_place 0) rebuilt) xs
+unfoldable pub settled♯ : Result ℕ Refusal → List ℕ → After Answer
+settled♯ (Ok rebuilt) xs = after (updated (get_or xs live_place 0) rebuilt) xs
+settled♯ (Err e) xs = after (refusal (number_of e) 0) (if eqb (number_of e) 4 then set xs open_place 0 else xs)
 
+-- the same of a walk that gives a number for damage
 unfoldable pub settled_after : After ℕ → After Answer
-settled_after p = settled♯ p.out p.words
+settled_after p = if eqb p.out damaged then closed♯ p.words else after (updated (get_or p.words live_place 0) p.out) p.words
 
 -- what was looked for: damage closes the table; else what is done where there is no such mark, or where there is one
-abbrev pub on_found : ℕ → List ℕ → After Answer → After Answer → After Answer
-on_found s xs lacks has = if eqb s damaged then closed♯ xs else (if eqb s absent then lacks else has)
+abbrev pub on_found : Sought → List ℕ → After Answer → (ℕ → After Answer) → After Answer
+on_found (Err e) xs lacks has = closed♯ xs
+on_found (Ok None) xs lacks has = lacks
+on_found (Ok (Some s)) xs lacks has = has s
 
-unfoldable pub insert_found : Mark → ℕ → List ℕ → After Answer
-insert_found m s xs =
-    on_found s xs (if eqb (get_or xs live_place 0) (get_or xs capacity_place 0) then after (refusal 7 0) xs else settled_after (table_insert♯ m xs))
-    (after (refusal 8 0) xs)
+unfoldable pub insert_found : Mark → Sought → List ℕ → After Answer
+insert_found m r xs =
+    on_found r xs (if eqb (get_or xs live_place 0) (get_or xs capacity_place 0) then after (refusal 7 0) xs else settled_after (table_insert♯ m xs))
+    (λ s. after (refusal 8 0) xs)
 
 unfoldable pub insert_own♯ : Mark → List ℕ → After Answer
 insert_own♯ m xs = insert_found m (find♯ xs m) xs
 
-unfoldable pub strike_found : ℕ → List ℕ → After Answer
-strike_found s xs = on_found s xs (after (refusal 9 0) xs) (settled_after (table_strike♯ s xs))
+unfoldable pub strike_found : Sought → List ℕ → After Answer
+strike_found r xs = on_found r xs (after (refusal 9 0) xs) (λ s. settled_after (table_strike♯ s xs))
 
 unfoldable pub strike_own♯ : Mark → List ℕ → After Answer
 strike_own♯ m xs = strike_found (find♯ xs m) xs
@@ -81,6 +100,10 @@ unfoldable pub tallied : ℕ → ℕ → ℕ → Answer
 tallied most live t =
     if ltb most (visits_in t) then refusal 4 0
     else (if ltb live (found_in t) then refusal 4 0 else counted (found_in t) (visits_in t) (sum_of (grades_in t)) (worst_of (grades_in t)))
+
+abbrev pub tally_answer : Result Counted Damaged → Answer
+tally_answer (Ok c) = counted c.marks c.visits c.sum c.worst
+tally_answer (Err _) = refusal 4 0
 
 unfoldable pub count_own♯ : ℕ → Box → List ℕ → Answer
 count_own♯ most b xs = tallied most (get_or xs live_place 0) (main_count♯ xs b)

@@ -8,5 +8,6 @@ pub mod count;
 pub mod insert;
 pub mod list;
 pub mod open;
+pub mod refusal;
 pub mod strike;
-pub mod update;
+mod update;

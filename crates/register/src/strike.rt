@@ -1,53 +1,45 @@
 // Strike: takes a mark out.
 ghost use Rattle.std.specs.Prelude.{◌≡◌};
 ghost use Rattle.model.specs.Sheet.{mark};
+ghost use Rattle.model.specs.Refusals.{name_mark};
 ghost use Rattle.model.specs.History as history;
-ghost use Rattle.geometry.specs.Values.{mark_value};
-ghost use Rattle.table.specs.After.{after};
-ghost use Rattle.table.specs.Header.{OfCapacity};
+ghost use Rattle.geometry.specs.Values.{mark_outcome};
 ghost use Rattle.register.specs.Answers.{update_answer};
-ghost use Rattle.register.specs.Mirrors.{strike_own♯, strike♯};
+ghost use Rattle.register.specs.Mirrors.{strike_own♯};
 ghost use Rattle.register.specs.Performs.{Performs, alone};
 
-use crate::answers::Update;
-use crate::update;
-use geometry::Mark;
+use crate::answers::Updated;
+use crate::refusal::Refusal;
+use crate::update::{Change, update};
+use geometry::{Mark, MarkError};
 use primary_search::find;
-use table::{header, limits};
+use table::header::Header;
 
-// Strikes from the table's own words.
-fn strike_own(t: &mut [u32], capacity: u32, m: Mark) -> Update
-    requires { OfCapacity capacity t.old }
-    ensures { after (update_answer result) t.new ≡ strike_own♯ (mark_value m) t.old }
-{
-    let s = find::find(t, capacity, m);
-    if s == limits::DAMAGED {
-        return update::close(t);
+struct Striking;
+
+impl Change for Striking {
+    ghost mirror = { strike_own♯ };
+
+    fn change(t: &mut [u32], own: Header, m: Mark) -> Result<u32, Refusal> {
+        let s = find::find(t, own.capacity, m)?.ok_or(Refusal::Absent)?;
+        Ok(whole_table::strike::strike(t, own.capacity, s)?)
     }
-    if s == limits::ABSENT {
-        return Update::Absent;
-    }
-    let rebuilt = whole_table::strike::strike(t, capacity, s);
-    update::settle(t, rebuilt)
 }
 
-fn struck(table: &mut [u32], x: u32, y: u32, tag: u32) -> Update
-    ensures { after (update_answer result) table.new ≡ strike♯ (mark x y tag 0) table.old }
+// The mark that a strike names.
+#[tactic(auto, unfolding(model::specs::Refusals::name_mark))]
+fn named(x: u32, y: u32, tag: u32) -> Result<Mark, MarkError>
+    ensures { mark_outcome result ≡ name_mark (mark x y tag 0) }
 {
-    let own = header::own(table);
-    let words = own.words;
-    if words == 0 {
-        return Update::NotTable;
-    }
     let m = Mark::named(x, y, tag);
     if m.is_outside() {
-        return Update::Outside;
+        return Err(MarkError::Outside);
     }
-    strike_own(&mut table[0..words], own.capacity, m)
+    Ok(m)
 }
 
-pub fn strike(table: &mut [u32], x: u32, y: u32, tag: u32) -> Update
+pub fn strike(table: &mut [u32], x: u32, y: u32, tag: u32) -> Result<Updated, Refusal>
     ensures { Performs (history.strike (mark x y tag 0)) (alone table.old) (alone table.new) (update_answer result) }
 {
-    struck(table, x, y, tag)
+    update::<Striking>(table, named(x, y, tag))
 }

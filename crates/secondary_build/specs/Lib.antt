@@ -2,3 +2,4 @@
 -- What they mean is in proofs/.
 pub mod Build
 pub mod Copy
+pub mod Values

@@ -1,5 +1,5 @@
-// Building, rebuilding and copying auxiliary trees: `base` is where the records of the tree's level begin. The caller knows that the runs and the records of
-// that level are there. Weight 0 in an answer means that the words hold no tree.
+// Building, rebuilding and copying auxiliary trees: a tree tells where its level begins. The caller knows that the runs and the records of that
+// level are there.
 #![tactic(auto)]
 
 pub mod build;

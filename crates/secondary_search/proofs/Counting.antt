@@ -25,10 +25,11 @@ use Rattle.table.specs.Figures.{arrived}
 use Rattle.table.proofs.Packing.{grading-laws, grading-small, word_small}
 use Rattle.nodes.specs.Arms.{Arm}
 use Rattle.nodes.specs.Holds.{grades_of, arm_of, Held, CarriesBag}
-use Rattle.nodes.specs.Count.{added}
+use Rattle.nodes.specs.Count.{Kind, added}
 use Rattle.nodes.proofs.Held.{held-weight, held-least, held-left, held-right}
 use Rattle.nodes.proofs.Searching.{clear-past, found-clear, Arrives, Laid, count-adds, added-both, added-swap, added-arrive}
-use Rattle.secondary_search.specs.Count.{auxiliary_kind, count♯}
+use Rattle.secondary_search.specs.Search.{kind}
+use Rattle.secondary_search.specs.Count.{auxiliary, count♯}
 
 -- the count goes by the y side alone
 pub count-by-y : (xs : List ℕ) (C : ℕ) (b : Box) (base : ℕ) (a : Arm) (tally : ℕ)
@@ -68,11 +69,14 @@ module _ (f : ℕ → Mark) (b : Box) where
   ordered = slot_axis-laws f sheet along_y along_y-laws
 
   module _ (base C : ℕ) (xs : List ℕ) where
+    abbrev K : Kind ℕ
+    K = kind auxiliary C xs b
+
     abbrev ArrivesHere : Tree ℕ (List ℕ) → Type 0
-    ArrivesHere = Arrives auxiliary_kind along_y b f (innermost (slot_space f sheet)) ordered C xs (added f) (added-both f) (added-swap f) (added-arrive f) base
+    ArrivesHere = Arrives K along_y b f (innermost (slot_space f sheet)) ordered C xs (added f) (added-both f) (added-swap f) (added-arrive f) base
 
     abbrev LaidHere : Tree ℕ (List ℕ) → Type 0
-    LaidHere = Laid auxiliary_kind along_y b f (innermost (slot_space f sheet)) ordered C xs (added f) (added-both f) (added-swap f) (added-arrive f) base
+    LaidHere = Laid K along_y b f (innermost (slot_space f sheet)) ordered C xs (added f) (added-both f) (added-swap f) (added-arrive f) base
 
     -- inside the side all that a tree weighs is found, with its grades
     taken : (t : Tree ℕ (List ℕ)) → CarriesBag t → Settled t → Graded t → weight t ≤ 65536 → inside (slot_axis f along_y) b t ≡ true
@@ -100,7 +104,7 @@ module _ (f : ℕ → Mark) (b : Box) where
         → arrived tally 0 0 ≡ added f (searched t) tally
     unfolding arrived added
     skipped t s e tally =
-        rw (found-clear auxiliary_kind along_y b f (innermost (slot_space f sheet)) ordered C xs (added f) (added-both f) (added-swap f) (added-arrive f) t s e)
+        rw (found-clear K along_y b f (innermost (slot_space f sheet)) ordered C xs (added f) (added-both f) (added-swap f) (added-arrive f) t s e)
 
     arrives : (t : Tree ℕ (List ℕ)) → CarriesBag t → Settled t → Graded t → weight t ≤ 65536 → Sorted (slot_axis f along_y) (marks t)
         → ArrivesHere t
@@ -130,6 +134,6 @@ module _ (f : ℕ → Mark) (b : Box) where
           → Sorted (slot_axis f along_y) (marks t) → depth t ≤ 38 → (tally : ℕ)
           → count♯ xs C b base (arm_of along_y f t) tally ≡ added f (searched t) tally
       count-holds fine t h c g k s d =
-          count-adds auxiliary_kind along_y b f (innermost (slot_space f sheet)) ordered C xs (added f) (added-both f) (added-swap f) (added-arrive f)
+          count-adds K along_y b f (innermost (slot_space f sheet)) ordered C xs (added f) (added-both f) (added-swap f) (added-arrive f)
           fine base t
           (omega arith) (laid t h c g k s) s

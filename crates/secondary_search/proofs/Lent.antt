@@ -15,9 +15,10 @@ use Rattle.table.specs.Layout.{arm_width, record_width, record_place, level_end}
 use Rattle.table.specs.Limits.{deepest}
 use Rattle.table.specs.Figures.{arrived}
 use Rattle.nodes.specs.Arms.{Arm, arms, arm_at, record_at}
-use Rattle.nodes.specs.Count.{Side, side_along, low_record, low_node, low_from, high_record, high_node, high_from, low_end, high_end}
+use Rattle.nodes.specs.Count.{Kind, Side, side_along, low_record, low_node, low_from, high_record, high_node, high_from, low_end, high_end}
 use Rattle.nodes.specs.Count.{open_record, open_node, open_from, count_tree}
-use Rattle.secondary_search.specs.Count.{auxiliary_kind, records, Records, count♯}
+use Rattle.secondary_search.specs.Search.{kind}
+use Rattle.secondary_search.specs.Count.{records, Records, auxiliary, count♯}
 
 get_d_drop : (base i : ℕ) (xs : List ℕ) → get_or (drop base xs) i 0 ≡ get_or xs (base + i) 0
 get_d_drop zero i xs = let e : 0 + i ≡ i = omega arith in rw e
@@ -60,7 +61,13 @@ tested : {A : Type 0} (b : Bool) (t u v : A) → (b ≡ false → u ≡ v) → (
 tested true t u v h = refl
 tested false t u v h = h refl
 
-module _ (base C end : ℕ) (xs : List ℕ) (e : end ≡ level_end base C) (S : Side) where
+module _ (base C end : ℕ) (xs : List ℕ) (e : end ≡ level_end base C) (b : Box) where
+  abbrev K : Kind ℕ
+  K = kind auxiliary C xs b
+
+  abbrev S : Side
+  S = side_along along_y b
+
   abbrev level : List ℕ
   level = level_of base end xs
 
@@ -83,7 +90,7 @@ module _ (base C end : ℕ) (xs : List ℕ) (e : end ≡ level_end base C) (S : 
       ap₂ arms (arm-level (record_place 0 name) (record_place base name) (omega (arith, h)) (omega arith))
       (arm-level (record_place 0 name + arm_width) (record_place base name + arm_width) (omega (arith, h)) (omega arith))
 
-  low-level : (f n tally : ℕ) → low_from auxiliary_kind S C level f 0 n tally ≡ low_from auxiliary_kind S C xs f base n tally
+  low-level : (f n tally : ℕ) → low_from K S C level f 0 n tally ≡ low_from K S C xs f base n tally
   unfolding low_from low_node low_record
   low-level zero n tally = refl
   low-level (suc f) n tally =
@@ -94,7 +101,7 @@ module _ (base C end : ℕ) (xs : List ℕ) (e : end ≡ level_end base C) (S : 
         low-level f p.left.node (arrived (arrived tally p.right.weight p.right.grades) 0 0),
       ))
 
-  high-level : (f n tally : ℕ) → high_from auxiliary_kind S C level f 0 n tally ≡ high_from auxiliary_kind S C xs f base n tally
+  high-level : (f n tally : ℕ) → high_from K S C level f 0 n tally ≡ high_from K S C xs f base n tally
   unfolding high_from high_node high_record
   high-level zero n tally = refl
   high-level (suc f) n tally =
@@ -105,15 +112,15 @@ module _ (base C end : ℕ) (xs : List ℕ) (e : end ≡ level_end base C) (S : 
         high-level f p.right.node (arrived (arrived tally p.left.weight p.left.grades) 0 0),
       ))
 
-  low-end-level : (a : Arm) (tally : ℕ) → low_end auxiliary_kind S C level 0 a tally ≡ low_end auxiliary_kind S C xs base a tally
+  low-end-level : (a : Arm) (tally : ℕ) → low_end K S C level 0 a tally ≡ low_end K S C xs base a tally
   unfolding low_end
   low-end-level a tally = rw (low-level deepest a.node (arrived tally 0 0))
 
-  high-end-level : (a : Arm) (tally : ℕ) → high_end auxiliary_kind S C level 0 a tally ≡ high_end auxiliary_kind S C xs base a tally
+  high-end-level : (a : Arm) (tally : ℕ) → high_end K S C level 0 a tally ≡ high_end K S C xs base a tally
   unfolding high_end
   high-end-level a tally = rw (high-level deepest a.node (arrived tally 0 0))
 
-  open-level : (f n tally : ℕ) → open_from auxiliary_kind S C level f 0 n tally ≡ open_from auxiliary_kind S C xs f base n tally
+  open-level : (f n tally : ℕ) → open_from K S C level f 0 n tally ≡ open_from K S C xs f base n tally
   unfolding open_from open_node open_record
   open-level zero n tally = refl
   open-level (suc f) n tally =
@@ -123,7 +130,7 @@ module _ (base C end : ℕ) (xs : List ℕ) (e : end ≡ level_end base C) (S : 
         open-level f p.right.node (arrived (arrived tally 0 0) 0 0),
         open-level f p.left.node (arrived (arrived tally 0 0) 0 0),
         low-end-level p.left tally,
-        high-end-level p.right (low_end auxiliary_kind S C xs base p.left tally),
+        high-end-level p.right (low_end K S C xs base p.left tally),
       ))
 
 pub count-lent : (base C end : ℕ) (xs : List ℕ) (b : Box) (a : Arm) (tally : ℕ) →
@@ -132,4 +139,4 @@ pub count-lent : (base C end : ℕ) (xs : List ℕ) (b : Box) (a : Arm) (tally :
     count♯ (level_of base end xs) (records (level_of base end xs)) b 0 a tally ≡ count♯ xs C b base a tally
 unfolding count_tree
 count-lent base C end xs b a tally e h =
-    rw (level-records base C end xs e h, open-level base C end xs e (side_along along_y b) deepest a.node (arrived tally 0 0))
+    rw (level-records base C end xs e h, open-level base C end xs e b deepest a.node (arrived tally 0 0))

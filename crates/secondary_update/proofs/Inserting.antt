@@ -135,20 +135,16 @@ unfolding sum
 sum_one w h = omega arith
 
 lesser-new : (a v : ℕ) → v ≤ a → lesser a v ≡ v
-unfolding lesser
-lesser-new a v h = by_cases (ltb v a) (λ t. rw t) (λ u. rw u (omega (arith, ltb-false v a u)))
+lesser-new a v h = omega arith
 
 lesser-old : (a v : ℕ) → a ≤ v → lesser a v ≡ a
-unfolding lesser
-lesser-old a v h = by_cases (ltb v a) (λ t. rw t (omega (arith, ltb-true v a t))) (λ u. rw u)
+lesser-old a v h = omega arith
 
 greater-new : (a v : ℕ) → a ≤ v → greater a v ≡ v
-unfolding greater
-greater-new a v h = by_cases (ltb a v) (λ t. rw t) (λ u. rw u (omega (arith, ltb-false a v u)))
+greater-new a v h = omega arith
 
 greater-old : (a v : ℕ) → v ≤ a → greater a v ≡ a
-unfolding greater
-greater-old a v h = by_cases (ltb a v) (λ t. rw t (omega (arith, ltb-true a v t))) (λ u. rw u)
+greater-old a v h = omega arith
 
 module _ {I : Type 0} (A : Axis Mark Box) (f : ℕ → Mark) (R : Register ℕ Box I) (s : ℕ) where
   abbrev grown : Tree ℕ I → Tree ℕ I

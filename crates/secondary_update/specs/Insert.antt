@@ -1,6 +1,6 @@
 -- The mirror of the insertion, along any axis. Assumes nothing.
 use Rattle.std.specs.Prelude.{ℕ, zero, suc, ◌+◌, ◌-◌, ◌/◌, ◌%◌, ◌≤◌, ◌<◌, ◌^◌, ◌≡◌}
-use Rattle.std.specs.Prelude.{refl, Bool, true, false, not, List, leb, ltb, eqb, length, if◌then◌else◌}
+use Rattle.std.specs.Prelude.{refl, Bool, true, false, not, Option, Some, None, List, leb, ltb, eqb, length, if◌then◌else◌}
 use Rattle.std.proofs.Common.{arith}
 use Rattle.model.specs.Axis.{Axis}
 use Rattle.model.specs.Sheet.{Mark, Box, along_y}
@@ -23,6 +23,10 @@ split♯ A place m s at q xs =
     then node_at place at (q.node / 2) (leaf_arm s (A.at m) m.grade) q xs
     else node_at place at s q (leaf_arm s (A.at m) m.grade) xs
 
+-- the name of the node of a leaf and a mark: the larger of the two
+unfoldable pub split_name : Axis Mark Box → Mark → ℕ → Arm → List ℕ → ℕ
+split_name A m s q xs = if A.below m (slot_mark xs (q.node / 2)) then q.node / 2 else s
+
 unfoldable pub put_fresh : ℕ → ℕ → After Arm → After ℕ
 put_fresh at w p = if eqb p.out.weight 0 then after damaged p.words else after w (put_arm p.words at p.out)
 
@@ -32,10 +36,10 @@ rebuilt_at A capacity place at a xs = put_fresh at a.weight (rebuild♯ A place 
 unfoldable pub afresh♯ : Axis Mark Box → ℕ → (ℕ → ℕ) → ℕ → ℕ → List ℕ → After ℕ
 afresh♯ A capacity place at done xs = if eqb done damaged then after damaged xs else rebuilt_at A capacity place at (arm_at xs at) xs
 
--- what is left to do once the mark is in: nothing where mending is still asked, else the tree at `top` is built afresh
-abbrev pub ended : ℕ → ℕ → Bool → ℕ → After ℕ → After ℕ
-ended base capacity true top p = p
-ended base capacity false top p = afresh♯ along_y capacity (record_place base) top p.out p.words
+-- what is left to do once the mark is in: the tree at `top` is built afresh, where there is one that waits for the mark
+abbrev pub ended : ℕ → ℕ → Option ℕ → After ℕ → After ℕ
+ended base capacity None p = p
+ended base capacity (Some top) p = afresh♯ along_y capacity (record_place base) top p.out p.words
 
 -- whether to mend, where the arm stands, and the words
 abbrev pub Insertion : Type 0
@@ -82,9 +86,9 @@ unfolding insert♯
 insert♯-suc zero h A capacity place m s mends at xs = absurd (h refl)
 insert♯-suc (suc f) h A capacity place m s mends at xs = let e : suc f - 1 ≡ f = omega arith in rw e
 
--- the arm at the word `at`, the slots and the runs of a table of that capacity, and the records of the level that begins at base are there
+-- the arm at the word `at`, the slots and the runs of a table of that capacity, and the records of a tree, up to their end, are there
 abbrev pub There : ℕ → ℕ → ℕ → List ℕ → Type 0
-There base capacity at xs = (at < 2 ^ 40) × (at + arm_width ≤ length xs) × (runs_end capacity ≤ length xs) × (level_end base capacity ≤ length xs)
+There end capacity at xs = (at < 2 ^ 40) × (at + arm_width ≤ length xs) × (runs_end capacity ≤ length xs) × (end ≤ length xs)
 
 -- into the auxiliary tree of the main node named `owner`: records that are not all there are damage
 unfoldable pub auxiliary_insert♯ : ℕ → ℕ → Mark → ℕ → ℕ → List ℕ → After ℕ

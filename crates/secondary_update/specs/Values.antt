@@ -1,7 +1,15 @@
 -- What the code's answers mean. Assumes nothing.
-use Rattle.nodes.specs.Values.{secondary_arm}
-use Rattle.secondary_update.specs.Updates.{Strike, strike}
+use Rattle.std.specs.Prelude.{Result, Ok, Err}
+use Rattle.table.specs.declared.damage.Damaged.{Damaged}
+use Rattle.nodes.specs.Values.{arm_value}
+use Rattle.secondary_update.specs.Updates.{Strike, strike, no_strike}
 use Rattle.secondary_update.specs.declared.strike.Struck.{Struck}
 
-abbrev pub struck_value : Struck → Strike
-struck_value u = strike (secondary_arm u.arm) u.rebuilt u.first
+module _ {T : Type 0} where
+  abbrev pub struck_value : Struck T → Strike
+  struck_value u = strike (arm_value u.arm) u.rebuilt u.first
+
+  -- a strike that met damage leaves no tree
+  abbrev pub strike_outcome : Result (Struck T) Damaged → Strike
+  strike_outcome (Ok u) = struck_value u
+  strike_outcome (Err _) = no_strike

@@ -1,135 +1,136 @@
 // Insertion: down from the root, each arm on the way written once, before its node's children are looked at.
-ghost use Rattle.std.specs.Prelude.{◌≡◌, true, ◌+◌, ◌/◌, ◌<◌, ◌≤◌, length};
+ghost use Rattle.std.specs.Prelude.{◌≡◌, true, ◌+◌, ◌/◌, ◌<◌, ◌≤◌, length, IfSome, IfOk};
 ghost use Rattle.model.specs.Sheet.{along_y};
 ghost use Rattle.geometry.specs.Values.{mark_value};
 ghost use Rattle.table.specs.After.{after};
+ghost use Rattle.table.specs.Damage.{figure_of};
 ghost use Rattle.table.specs.Layout.{arm_width, record_place, runs_end, level_end};
 ghost use Rattle.table.specs.Limits.{deepest};
-ghost use Rattle.nodes.specs.Values.{secondary_arm};
-ghost use Rattle.secondary_update.specs.Insert.{split♯, afresh♯, ended, There, insert♯, auxiliary_insert♯};
+ghost use Rattle.nodes.specs.Values.{arm_value};
+ghost use Rattle.secondary_update.specs.Insert.{split♯, split_name, afresh♯, ended, There, insert♯, auxiliary_insert♯};
 
-use geometry::Mark;
-use nodes::primary::PrimaryRecord;
-use nodes::secondary::{SecondaryArm, SecondaryRecord};
+use geometry::{Axis, Mark};
+use nodes::arm::Arm;
+use nodes::primary::Primary;
+use nodes::record::Record;
+use nodes::secondary::Secondary;
+use nodes::tree::Tree;
 use nodes::weights;
+use table::damage::Damaged;
 use table::{limits, slots};
 
-// Makes a node of a leaf and the mark m of slot s, the smaller left, named by the larger; its arm goes to the word `at`.
-fn split(t: &mut [u32], base: u32, capacity: u32, at: usize, q: SecondaryArm, m: Mark, s: u32)
-    requires { ((secondary_arm q).node / 2 < capacity) × (s < capacity) × There base capacity at t.old }
-    ensures { t.new ≡ split♯ along_y (record_place base) (mark_value m) s at (secondary_arm q) t.old }
+// Makes a node of a leaf and the mark m of slot s in a tree of either kind, the smaller left, named by the larger; its arm goes to the word `at`. Gives the
+// name.
+#[inline]
+pub fn split<T: Tree>(t: &mut [u32], tree: T, at: usize, q: Arm<T>, m: Mark, s: u32) -> u32
+    requires { ((arm_value q).node / 2 < T.capacity tree) × (s < T.capacity tree) × There (T.end tree) (T.capacity tree) at t.old }
+    ensures name { result ≡ split_name T.Along.along (mark_value m) s (arm_value q) t.old }
+    ensures slot { result < T.capacity tree }
+    ensures words { t.new ≡ split♯ T.Along.along (T.place tree) (mark_value m) s at (arm_value q) t.old }
 {
-    let new = SecondaryArm::leaf(s, m.y, m.grade);
-    let node = q.node;
-    let name = node.slot();
-    if m.below_y(slots::load(t, name)) {
-        SecondaryRecord::store(t, base, name, new, q);
-        SecondaryArm::store(t, at, SecondaryArm::over(name, new, q));
-        return;
+    let new = Arm::leaf(s, T::Along::at(m), m.grade);
+    let name = q.node.slot();
+    if T::Along::below(m, slots::load(t, name)) {
+        Record::store(t, tree, name, new, q);
+        Arm::store(t, at, Arm::over(name, new, q));
+        return name;
     }
-    SecondaryRecord::store(t, base, s, q, new);
-    SecondaryArm::store(t, at, SecondaryArm::over(s, q, new));
+    Record::store(t, tree, s, q, new);
+    Arm::store(t, at, Arm::over(s, q, new));
+    s
 }
 
-// Builds afresh the tree whose arm stands at the word `at`, where what was done beneath it has not met damage; gives its weight.
-fn afresh(t: &mut [u32], base: u32, capacity: u32, at: usize, done: u32) -> u32
-    requires { (at + arm_width ≤ length t.old) × (runs_end capacity ≤ length t.old) × (level_end base capacity ≤ length t.old) }
-    ensures { after result t.new ≡ afresh♯ along_y capacity (record_place base) at done t.old }
+// Builds afresh the tree whose arm stands at the word `at`; gives its weight.
+fn afresh(t: &mut [u32], tree: Secondary, at: usize) -> Result<u32, Damaged>
+    requires { (at + arm_width ≤ length t.old) × (runs_end tree.capacity ≤ length t.old) × (level_end tree.base tree.capacity ≤ length t.old) }
+    ensures is { after (figure_of result) t.new ≡ afresh♯ along_y tree.capacity (record_place tree.base) at 0 t.old }
+    ensures within { IfOk result (λ n. n ≤ tree.capacity) }
 {
-    if done == limits::DAMAGED {
-        return limits::DAMAGED;
-    }
-    let a = SecondaryArm::load(t, at);
+    let a = Arm::load(t, at);
     let fresh = secondary_build::build::rebuild(
         t,
-        base,
-        capacity,
+        tree,
         a.node,
         a.weight,
         limits::NO_SLOT,
         a.weight,
-    );
-    if fresh.weight == 0 {
-        return limits::DAMAGED;
-    }
-    SecondaryArm::store(t, at, fresh);
-    a.weight
+    )?;
+    Arm::store(t, at, fresh);
+    Ok(a.weight)
 }
 
-// Makes a node of a leaf and the mark m of slot s, and builds the tree at `top` afresh where that waits for the mark; gives its weight, or 0.
+// Makes a node of a leaf and the mark m of slot s, and builds the tree at `top` afresh where there is one that waits for the mark; gives its weight, or 0.
+#[inline]
 fn insert_at_leaf(
     t: &mut [u32],
-    base: u32,
-    capacity: u32,
+    tree: Secondary,
     at: usize,
-    q: SecondaryArm,
+    q: Arm<Secondary>,
     m: Mark,
     s: u32,
-    mends: bool,
-    top: usize,
-) -> u32
-    requires { ((secondary_arm q).node / 2 < capacity) × (s < capacity) × (top + arm_width ≤ length t.old) × There base capacity at t.old }
-    ensures { after result t.new
-        ≡ ended base capacity mends top (after 0 (split♯ along_y (record_place base) (mark_value m) s at (secondary_arm q) t.old)) }
+    top: Option<usize>,
+) -> Result<u32, Damaged>
+    requires { ((arm_value q).node / 2 < tree.capacity) × (s < tree.capacity) × IfSome top (λ w. w + arm_width ≤ length t.old)
+        × There (level_end tree.base tree.capacity) tree.capacity at t.old }
+    ensures is { after (figure_of result) t.new
+        ≡ ended tree.base tree.capacity top (after 0 (split♯ along_y (record_place tree.base) (mark_value m) s at (arm_value q) t.old)) }
+    ensures within { IfOk result (λ n. n ≤ tree.capacity) }
 {
-    split(t, base, capacity, at, q, m, s);
-    if mends {
-        return 0;
+    split(t, tree, at, q, m, s);
+    match top {
+        Some(place) => afresh(t, tree, place),
+        None => Ok(0),
     }
-    afresh(t, base, capacity, top, 0)
 }
 
 // Inserts the mark m of slot s beneath the arm at the word `start`, where that arm and every record and mark of a slot below the capacity are there. The
 // unbalanced node nearest the root is built afresh once the mark is in: from there on nothing is mended. A node of no slot is damage.
-fn insert_beneath(t: &mut [u32], base: u32, capacity: u32, start: usize, m: Mark, s: u32) -> u32
-    requires { (s < capacity) × There base capacity start t.old }
-    ensures { after result t.new ≡ insert♯ along_y deepest capacity (record_place base) (mark_value m) s true start t.old }
+fn insert_beneath(
+    t: &mut [u32],
+    tree: Secondary,
+    start: usize,
+    m: Mark,
+    s: u32,
+) -> Result<u32, Damaged>
+    requires { (s < tree.capacity) × There (level_end tree.base tree.capacity) tree.capacity start t.old }
+    ensures is { after (figure_of result) t.new ≡ insert♯ along_y deepest tree.capacity (record_place tree.base) (mark_value m) s true start t.old }
+    ensures within { IfOk result (λ n. n ≤ tree.capacity) }
 {
     let mut at = start;
-    let mut mends = true;
-    let mut top = start;
-    let mut left = limits::DEEPEST;
-    while 0 < left {
-        left -= 1;
-        let a = SecondaryArm::load(t, at);
-        let node = a.node;
-        let name = node.slot();
-        if capacity <= name {
-            return limits::DAMAGED;
+    let mut top = None;
+    for turn in 0..limits::DEEPEST {
+        let a = Arm::load(t, at);
+        let name = a.node.slot();
+        if tree.capacity <= name {
+            return Err(Damaged);
         }
-        if node.is_leaf() {
-            return insert_at_leaf(t, base, capacity, at, a, m, s, mends, top);
+        if a.node.is_leaf() {
+            return insert_at_leaf(t, tree, at, a, m, s, top);
         }
-        let fork = SecondaryRecord::fork(t, base, name, m);
+        let fork = Record::fork(t, tree, name, m);
         if weights::disagree(fork.child, fork.sibling, a.weight) {
-            return limits::DAMAGED;
+            return Err(Damaged);
         }
+        let mends = top.is_none();
         if weights::unbalances(mends, fork.child, fork.sibling) {
-            mends = false;
-            top = at;
-        } else {
-            SecondaryArm::store(t, at, a.grown(m.y, m.grade));
-            at = SecondaryRecord::child(base, name, fork.left);
+            top = Some(at);
+            continue;
         }
+        Arm::store(t, at, a.grown(m.y, m.grade));
+        at = Record::child(tree, name, fork.left);
     }
-    limits::DAMAGED
+    Err(Damaged)
 }
 
-// Inserts the mark m, which stands in slot s, into the auxiliary tree of the main node named `owner`, in the level whose records begin at base; gives the
+// Inserts the mark m, which stands in slot s, into the auxiliary tree of the main node named `owner`; gives the
 // weight of the node built afresh, or 0. Records that are not all there are damage.
-pub fn insert(t: &mut [u32], base: u32, capacity: u32, owner: u32, m: Mark, s: u32) -> u32
-    requires { (s < capacity) × (owner < capacity) × (runs_end capacity ≤ length t.old) }
-    ensures { after result t.new ≡ auxiliary_insert♯ base capacity (mark_value m) s owner t.old }
+pub fn insert(t: &mut [u32], tree: Secondary, owner: u32, m: Mark, s: u32) -> Result<u32, Damaged>
+    requires { (s < tree.capacity) × (owner < tree.capacity) × (runs_end tree.capacity ≤ length t.old) }
+    ensures is { after (figure_of result) t.new ≡ auxiliary_insert♯ tree.base tree.capacity (mark_value m) s owner t.old }
+    ensures within { IfOk result (λ n. n ≤ tree.capacity) }
 {
-    if SecondaryRecord::lacks_level(t, base, capacity) {
-        return limits::DAMAGED;
+    if tree.lacks_level(t) {
+        return Err(Damaged);
     }
-    insert_beneath(
-        t,
-        base,
-        capacity,
-        PrimaryRecord::auxiliary_place(owner),
-        m,
-        s,
-    )
+    insert_beneath(t, tree, Primary::auxiliary_place(owner), m, s)
 }

@@ -1,25 +1,24 @@
 // How many levels and words a table needs for its capacity (document 01, "Marks, boxes, tables").
 #![tactic(auto)]
 
-ghost use Rattle.std.specs.Prelude.{◌≡◌, ◌+◌, ◌*◌, ◌≤◌};
+ghost use Rattle.std.specs.Prelude.{◌≡◌, ◌+◌, ◌*◌, ◌≤◌, true, MatchOption};
 ghost use Rattle.model.specs.Refusals.{open_table};
 ghost use Rattle.model.specs.Sizes.{capacity_outside};
-ghost use Rattle.sizes.specs.Sizes.{levels_for, words_for, visits_for, opening_outcome};
+ghost use Rattle.sizes.specs.Sizes.{levels_for, words_for, SizeOf, opening_outcome};
 
 // The largest capacity.
 pub const LARGEST_CAPACITY: u32 = 65536;
 
-// What a capacity C asks of a table: its words, W(C), and the most visits of a count in it, (4 D(C) + 1) (2 D(C) + 1). Both are 0 for a capacity out of range.
+// What a capacity C of the range asks of a table: its words, W(C), and the most visits of a count in it, (4 D(C) + 1) (2 D(C) + 1).
 #[derive(Clone, Copy)]
 pub struct Size {
     pub words: usize,
     pub visits: u32,
 }
 
-// What opening a table finds: the words it needs, or why it cannot be.
-#[derive(Clone, Copy)]
-pub enum Opening {
-    Fits(usize),
+// Why a run of words cannot be opened: the capacity is out of its range, or the run is shorter than W(C).
+#[derive(Clone, Copy, PartialEq, Eq)]
+pub enum Misfit {
     Capacity,
     Short,
 }
@@ -72,60 +71,43 @@ pub fn levels(capacity: u32) -> u32
 }
 
 // Whether a capacity is out of its range.
+#[tactic(auto, unfolding(model::specs::Sizes::capacity_outside))]
 fn is_outside(capacity: u32) -> bool
     ensures { result ≡ capacity_outside capacity }
 {
-    if capacity == 0 {
-        return true;
-    }
-    LARGEST_CAPACITY < capacity
+    !(1..=LARGEST_CAPACITY).contains(&capacity)
 }
 
-// W(C) by its levels.
-fn words_by(capacity: u32, levels: u32) -> usize
-    requires { levels ≤ 38 }
-    ensures { result ≡ 64 + capacity * (40 + 24 * levels) }
-{
-    64 + (capacity as usize) * (40 + 24 * (levels as usize))
-}
-
-pub fn size_for(capacity: u32) -> Size
-    ensures { (result.words ≡ words_for capacity) × (result.visits ≡ visits_for capacity) }
+// None for a capacity out of its range.
+#[tactic(auto, using(crate::proofs::Sizes::size_laws), unfolding(model::specs::Sizes::W, crate::specs::Sizes::visits_within))]
+pub fn size_for(capacity: u32) -> Option<Size>
+    ensures { MatchOption result (capacity_outside capacity ≡ true) (SizeOf capacity) }
 {
     if is_outside(capacity) {
-        return Size {
-            words: 0,
-            visits: 0,
-        };
+        return None;
     }
     let d = levels(capacity);
-    let words = words_by(capacity, d);
-    Size {
-        words,
+    Some(Size {
+        words: 64 + (capacity as usize) * (40 + 24 * (d as usize)),
         visits: (4 * d + 1) * (2 * d + 1),
-    }
+    })
 }
 
-// W(C), the words of a table; 0 for a capacity out of range.
+// W(C), the words of a table. A number and no Option, since C has no other form for it: the exported call promises 0 for a capacity out of its range.
 pub fn words(capacity: u32) -> usize
     ensures { result ≡ words_for capacity }
 {
-    if is_outside(capacity) {
-        return 0;
-    }
-    words_by(capacity, levels(capacity))
+    size_for(capacity).map_or(0, |size| size.words)
 }
 
-// Whether a run of `lent` words can be opened for the capacity.
-pub fn fit(capacity: u32, lent: usize) -> Opening
+// The words that a table of the capacity takes of a run of `lent` words, where it can be opened.
+#[tactic(auto, unfolding(model::specs::Refusals::open_table))]
+pub fn fit(capacity: u32, lent: usize) -> Result<usize, Misfit>
     ensures { opening_outcome result ≡ open_table capacity lent }
 {
-    let needed = words(capacity);
-    if needed == 0 {
-        return Opening::Capacity;
+    let size = size_for(capacity).ok_or(Misfit::Capacity)?;
+    if lent < size.words {
+        return Err(Misfit::Short);
     }
-    if lent < needed {
-        return Opening::Short;
-    }
-    Opening::Fits(needed)
+    Ok(size.words)
 }

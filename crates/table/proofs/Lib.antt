@@ -1,6 +1,5 @@
 pub mod Lists
 pub mod RunSlots
-pub mod Stores
 pub mod Tallies
 pub mod Packing
 pub mod Own

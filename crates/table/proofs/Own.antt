@@ -1,12 +1,11 @@
--- What the words say where 3 does not apply, that it does not apply where they say so, and the tests as the code makes them. Assumes nothing.
-use Rattle.std.specs.Prelude.{if◌then◌else◌}
-use Rattle.std.proofs.Common.{◌≡◌, ℕ, ◌+◌, ◌*◌, ◌≤◌, true, false, not, eqb}
+-- What the words say where 3 does not apply, and that it does not apply where they say so. Assumes nothing.
+use Rattle.std.proofs.Common.{◌≡◌, ℕ, ◌+◌, ◌*◌, ◌≤◌, false, not, eqb}
 use Rattle.std.proofs.Common.{ltb, List, length, get_or, mul-le-mul_right, arith, ltb-false, le-ltb, eq-eqb, eqb-true}
 use borrow.Author.Tests.{not-false}
 use Rattle.model.specs.Sizes.{D, W, capacity_outside}
 use Rattle.model.proofs.Logic.{by_cases, or-neither}
 use Rattle.model.proofs.Sizes.{capacity-some, capacity-small}
-use Rattle.sizes.specs.Sizes.{words_for, visits_within, visits_for}
+use Rattle.sizes.specs.Sizes.{visits_within}
 use Rattle.sizes.proofs.Sizes.{levels_for-within, levels_for-most, visits-fit}
 use Rattle.table.specs.Layout.{open_place}
 use Rattle.table.specs.Limits.{most_visits}
@@ -53,28 +52,6 @@ module _ (xs : List ℕ) where
         ),
         omega arith,
       )
-
-  -- what is asked for a capacity out of range is 0, so the code does not ask for the capacity itself
-  module _ (h : 104 ≤ length xs) (is_open : eqb (get_or xs open_place 0) 1 ≡ true) where
-    own-asked : (inside : ℕ)
-        → (if not_table xs then 0 else inside) ≡ (if ltb (length xs) (words_for (capacity_of xs)) then 0
-        else (if ltb (capacity_of xs) (live_of xs) then 0 else (if capacity_outside (capacity_of xs) then 0 else inside)))
-    unfolding not_table
-    own-asked inside =
-        rw (le-ltb (length xs) 104 h, is_open) (
-        by_cases (capacity_outside (capacity_of xs))
-        (λ t. rw (t, le-ltb (length xs) 0 (omega arith)) (by_cases (ltb (capacity_of xs) (live_of xs)) (λ u. rw u) (λ u. rw u)))
-        (λ f. rw f (by_cases (ltb (length xs) (W (capacity_of xs))) (λ u. rw u) (λ u. rw u))))
-
-    pub own-words : own_words xs ≡ (if ltb (length xs) (words_for (capacity_of xs)) then 0
-        else (if ltb (capacity_of xs) (live_of xs) then 0 else words_for (capacity_of xs)))
-    unfolding own_words
-    own-words = own-asked (W (capacity_of xs))
-
-    pub own-visits : own_visits xs ≡ (if ltb (length xs) (words_for (capacity_of xs)) then 0
-        else (if ltb (capacity_of xs) (live_of xs) then 0 else visits_for (capacity_of xs)))
-    unfolding own_visits
-    own-visits = own-asked (visits_within (capacity_of xs))
 
   -- where 3 does not apply
   pub own-most : (own_words xs ≡ 0 → ⊥) → own_visits xs ≡ visits_within (capacity_of xs)

@@ -1,34 +1,13 @@
--- The figure of grades and a count's tally, as the code makes them and as what they stand for: groups of marks joined in any order, each part read off.
--- Assumes nothing.
+-- The figure of grades and a count's tally stand for what they say: groups of marks joined in any order, each part read off. Assumes nothing.
 use Rattle.std.specs.Prelude.{if◌then◌else◌}
-use Rattle.std.proofs.Common.{◌≡◌, ℕ, ◌+◌, ◌-◌, ◌*◌, ◌/◌, ◌%◌, ◌^◌, ◌<◌, ◌≤◌, max}
-use Rattle.std.proofs.Common.{Bool, ltb, List, [], ◌∷◌, length, refl, ◌∙◌, arith, ltb-false, ltb-true}
+use Rattle.std.proofs.Common.{◌≡◌, ℕ, ◌+◌, ◌*◌, ◌/◌, ◌%◌, ◌^◌, ◌<◌, ◌≤◌, max}
+use Rattle.std.proofs.Common.{Bool, List, [], ◌∷◌, length, refl, ◌∙◌, arith}
 use Rattle.model.specs.Totals.{total, total_if}
 use Rattle.model.specs.Laws.{OperationLaws, All, nil, cons}
 use Rattle.model.proofs.Logic.{by_cases}
 use Rattle.model.proofs.Lists.{all_map}
-use Rattle.table.specs.Words.{lesser}
 use Rattle.table.specs.Grades.{graded, joined, grading, sum_of, worst_of, word, joined_word}
-use Rattle.table.specs.Figures.{packed, arrived, found_in, visits_in, grades_in}
-
-lesser-left : (a b : ℕ) → lesser a b ≤ a
-unfolding lesser
-lesser-left a b = by_cases (ltb b a) (λ t. rw t (omega (arith, ltb-true b a t))) (λ f. rw f (omega arith))
-
-lesser-right : (a b : ℕ) → lesser a b ≤ b
-unfolding lesser
-lesser-right a b = by_cases (ltb b a) (λ t. rw t (omega arith)) (λ f. rw f (omega (arith, ltb-false b a f)))
-
--- a figure joined to another as the code does it: the lesser of the two worst grades is left out of the sum
-pub joined-less : (p q : ℕ) → p + q - lesser (p % 256) (q % 256) ≡ joined p q
-unfolding joined lesser
-joined-less p q =
-    by_cases (ltb (q % 256) (p % 256))
-    (λ t. rw t (omega (arith, ltb-true (q % 256) (p % 256) t)))
-    (λ f. rw f (omega (arith, ltb-false (q % 256) (p % 256) f)))
-
-pub less-part : (p q n : ℕ) → n ≡ lesser (p % 256) (q % 256) → n ≤ q
-less-part p q n e = omega (arith, lesser-right (p % 256) (q % 256))
+use Rattle.table.specs.Figures.{packed, found_in, visits_in, grades_in}
 
 pub joined-assoc : (a b c : ℕ) → joined (joined a b) c ≡ joined a (joined b c)
 unfolding joined
@@ -140,28 +119,6 @@ joined-round a b =
     let e : a % 2 ^ 64 + 256 * (72057594037927936 * (a / 2 ^ 64)) ≡ a = omega arith in
     let k = (rw e at (joined-out (a % 2 ^ 64) b (72057594037927936 * (a / 2 ^ 64)))) in
     omega (arith, k)
-
--- a visit without a mark, and one with a tree of marks, as the code makes them
-pub arrived-none : (t : ℕ) → (t + 2147483648) % 2 ^ 64 ≡ arrived t 0 0
-unfolding arrived packed joined
-arrived-none t = omega arith
-
-packed-worst : (w g : ℕ) → packed w 1 g % 256 ≡ g % 256
-unfolding packed
-packed-worst w g = omega arith
-
--- a number that is left out of a tree's figures, which go round
-packed-less : (t w g n : ℕ) → n ≤ g
-    → (t + (140737488355328 * (w % 131072) + 2147483648 + (g - n)) % 2 ^ 64) % 2 ^ 64 ≡ (t + packed w 1 g - n) % 2 ^ 64
-unfolding packed
-packed-less t w g n h = omega arith
-
-pub arrived-tree : (t w g n : ℕ) → n ≡ lesser (t % 256) (g % 256)
-    → (t + (140737488355328 * (w % 131072) + 2147483648 + (g - n)) % 2 ^ 64) % 2 ^ 64 ≡ arrived t w g
-unfolding arrived
-arrived-tree t w g n e =
-    let k = (rw (packed-worst w g, ← e) at (joined-less t (packed w 1 g))) in
-    rw (← k) (packed-less t w g n (less-part t g n e))
 
 -- the parts of a tally whose figures fill their places
 module _ (k v g : ℕ) (hv : v < 65536) (hg : g < 2147483648) where

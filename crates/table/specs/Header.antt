@@ -3,6 +3,7 @@
 use Rattle.std.specs.Prelude.{◌≡◌, ℕ, ◌≤◌, Bool, not, ◌||◌, List, length, ◌==◌, nat_lt, slice_index, if◌then◌else◌}
 use Rattle.model.specs.Sizes.{W, capacity_outside}
 use Rattle.sizes.specs.Sizes.{visits_within}
+use Rattle.table.specs.declared.header.Header.{Header}
 use Rattle.table.specs.Layout.{open_place, capacity_place, live_place, runs_end}
 
 -- the capacity and the live marks
@@ -30,3 +31,11 @@ own_words xs = if not_table xs then 0 else W (capacity_of xs)
 
 unfoldable pub own_visits : List ℕ → ℕ
 own_visits xs = if not_table xs then 0 else visits_within (capacity_of xs)
+
+-- what a header says of the words that it is read from
+pub record HeaderOf (xs : List ℕ) (h : Header) : Type 0 where
+  pub capacity : h.capacity ≡ capacity_of xs
+  pub live : h.live ≡ live_of xs
+  pub words : h.words ≡ own_words xs
+  pub some : h.words ≡ 0 → ⊥
+  pub visits : h.visits ≡ own_visits xs

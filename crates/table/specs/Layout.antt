@@ -54,6 +54,10 @@ main_place name = header_width + mark_width + slot_width * name
 abbrev pub auxiliary_place : ℕ → ℕ
 auxiliary_place name = header_width + mark_width + record_width + slot_width * name
 
+-- the word i of a column of one word for each slot, with that many columns between it and the slots
+abbrev pub column_place : ℕ → ℕ → ℕ → ℕ
+column_place before capacity i = header_width + (slot_width + before) * capacity + i
+
 module _ (capacity : ℕ) where
   -- used[i], and place[s]
   abbrev pub used_place : ℕ → ℕ

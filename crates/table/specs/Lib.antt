@@ -3,6 +3,7 @@ pub mod Layout
 pub mod Header
 pub mod Words
 pub mod Limits
+pub mod Damage
 pub mod Marks
 pub mod Runs
 pub mod Tally

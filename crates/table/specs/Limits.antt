@@ -13,17 +13,13 @@ sibling_deepest = 3
 abbrev pub most_visits : ℕ
 most_visits = 11781
 
--- what is given in place of a slot, of how many slots were collected, or of an update's figure where the words hold no tree
+-- what the mirrors give in place of an update's figure where the words hold no tree: past every word, so that no figure is taken for it
 abbrev pub damaged : ℕ
-damaged = 4294967295
+damaged = 4294967296
 
 -- no slot of any table: none is left out
 abbrev pub no_slot : ℕ
 no_slot = 4294967295
-
--- in place of a slot, where the table does not have the mark
-abbrev pub absent : ℕ
-absent = 4294967294
 
 -- the tally of a listing that met damage: more visits than any budget, and so many that a few visits more leave it so
 abbrev pub lost : ℕ

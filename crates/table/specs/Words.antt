@@ -1,8 +1,8 @@
 -- The lesser and the greater of two words. Assumes nothing.
-use Rattle.std.specs.Prelude.{ℕ, nat_lt, if◌then◌else◌}
+use Rattle.std.specs.Prelude.{ℕ, min, max}
 
-unfoldable pub lesser : ℕ → ℕ → ℕ
-lesser a b = if nat_lt b a then b else a
+abbrev pub lesser : ℕ → ℕ → ℕ
+lesser a b = min a b
 
-unfoldable pub greater : ℕ → ℕ → ℕ
-greater a b = if nat_lt a b then b else a
+abbrev pub greater : ℕ → ℕ → ℕ
+greater a b = max a b

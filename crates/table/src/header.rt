@@ -1,8 +1,8 @@
 // The header: whether the table is open, its capacity, its live marks; and the test that every call enters by
 // (document 01, "Where each call may stop": 3).
-ghost use Rattle.std.specs.Prelude.{◌≡◌, ◌==◌, ◌≢◌, slice_index, slice_set};
+ghost use Rattle.std.specs.Prelude.{◌≡◌, ◌==◌, slice_index, slice_set, MatchOption};
 ghost use Rattle.table.specs.Layout.{open_place, capacity_place, live_place};
-ghost use Rattle.table.specs.Header.{capacity_of, live_of, own_words, own_visits};
+ghost use Rattle.table.specs.Header.{own_words, own_visits, HeaderOf};
 
 use crate::{layout, words};
 
@@ -52,48 +52,24 @@ pub struct Header {
     pub visits: u32,
 }
 
-// Where 3 applies: no words.
-fn no_table() -> Header
-    ensures { (result.words ≡ 0) × (result.visits ≡ 0) }
+// None where 3 applies.
+#[tactic(auto, unfolding(crate::specs::Header::not_table, crate::specs::Header::own_words, crate::specs::Header::own_visits, model::specs::Sizes::W))]
+pub fn own(t: &[u32]) -> Option<Header>
+    ensures { MatchOption result ((own_words t.now ≡ 0) × (own_visits t.now ≡ 0)) (HeaderOf t.now) }
 {
-    Header {
-        capacity: 0,
-        live: 0,
-        words: 0,
-        visits: 0,
+    if t.len() < layout::SHORTEST || !is_open(t) {
+        return None;
     }
-}
-
-pub fn own(t: &[u32]) -> Header
-    ensures sizes { (result.words ≡ own_words t.now) × (result.visits ≡ own_visits t.now) }
-    ensures says { (result.words ≢ 0) → (result.capacity ≡ capacity_of t.now) × (result.live ≡ live_of t.now) }
-{
-    if t.len() < layout::SHORTEST {
-        return no_table();
+    let capacity = capacity(t);
+    let live = live(t);
+    let size = sizes::size_for(capacity)?;
+    if t.len() < size.words || capacity < live {
+        return None;
     }
-    if is_open(t) {
-        let capacity = capacity(t);
-        let needed = sizes::size_for(capacity);
-        if t.len() < needed.words {
-            return no_table();
-        }
-        let live = live(t);
-        if capacity < live {
-            return no_table();
-        }
-        return Header {
-            capacity,
-            live,
-            words: needed.words,
-            visits: needed.visits,
-        };
-    }
-    no_table()
-}
-
-pub fn own_words(t: &[u32]) -> usize
-    ensures { result ≡ own_words t.now }
-{
-    let found = own(t);
-    found.words
+    Some(Header {
+        capacity,
+        live,
+        words: size.words,
+        visits: size.visits,
+    })
 }

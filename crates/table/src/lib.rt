@@ -2,6 +2,7 @@
 // Every other word is tested: past the end it reads as 0 and is not written; a mark of a list has one test for all its words.
 #![tactic(auto)]
 
+pub mod damage;
 pub mod figures;
 pub mod grades;
 pub mod header;

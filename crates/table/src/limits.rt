@@ -6,14 +6,8 @@ pub const DEEPEST: u32 = 40;
 // More levels than a tree of three marks has: in a balanced tree the sibling of a leaf has no more marks.
 pub const SIBLING_DEEPEST: u32 = 3;
 
-// What is given in place of a slot, of how many slots were collected, or of an update's figure where the words hold no tree.
-pub const DAMAGED: u32 = 4294967295;
-
 // No slot of any table: none is left out.
 pub const NO_SLOT: u32 = 4294967295;
-
-// In place of a slot, where the table does not have the mark.
-pub const ABSENT: u32 = 4294967294;
 
 // The tally of a listing that met damage: more visits than any budget, and so many that a few visits more leave it so.
 pub const LOST: u64 = 2147483648;

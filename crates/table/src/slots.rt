@@ -8,6 +8,7 @@ use crate::layout;
 use geometry::Mark;
 
 // The mark in the words from `at` on, which are there.
+#[tactic(auto, unfolding(crate::specs::Marks::mark_at))]
 fn read(t: &[u32], at: usize) -> Mark
     requires { at + mark_width ≤ length t.now }
     ensures { mark_value result ≡ mark_at t.now at }
@@ -20,6 +21,7 @@ fn read(t: &[u32], at: usize) -> Mark
     }
 }
 
+#[tactic(auto, unfolding(crate::specs::Marks::put_mark))]
 fn write(t: &mut [u32], at: usize, m: Mark)
     requires { at + mark_width ≤ length t.old }
     ensures { t.new ≡ put_mark t.old at (mark_value m) }
@@ -31,6 +33,7 @@ fn write(t: &mut [u32], at: usize, m: Mark)
 }
 
 // The mark in slot s, whose words are there.
+#[tactic(auto, unfolding(crate::specs::Marks::slot_mark))]
 pub fn load(t: &[u32], s: u32) -> Mark
     requires { slot_place s + mark_width ≤ length t.now }
     ensures { mark_value result ≡ slot_mark t.now s }
@@ -47,22 +50,25 @@ pub fn store(t: &mut [u32], s: u32, m: Mark)
 }
 
 // The mark at the place k of a list, four words a mark; zeros where they are not all there.
+#[tactic(auto, unfolding(crate::specs::Marks::list_mark, crate::specs::Marks::mark_at))]
 pub fn listed(list: &[u32], k: u32) -> Mark
     ensures { mark_value result ≡ list_mark list.now k }
 {
     let at = layout::MARK * (k as usize);
     if at + layout::MARK <= list.len() {
-        return read(list, at);
-    }
-    Mark {
-        x: 0,
-        y: 0,
-        tag: 0,
-        grade: 0,
+        read(list, at)
+    } else {
+        Mark {
+            x: 0,
+            y: 0,
+            tag: 0,
+            grade: 0,
+        }
     }
 }
 
 // Puts a mark at the place k of a list, where its words are all there.
+#[tactic(auto, unfolding(crate::specs::Marks::put_mark))]
 pub fn put_listed(list: &mut [u32], k: u32, m: Mark)
     ensures { list.new ≡ put_mark list.old (list_place k) (mark_value m) }
 {

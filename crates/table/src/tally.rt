@@ -23,10 +23,11 @@ impl Tally {
     }
 
     // One visit more, with w marks.
+    #[tactic(auto, unfolding(crate::specs::Tally::visited))]
     pub fn take(self, w: u32) -> Tally
         ensures { result.0 ≡ visited self.0 w }
     {
-        Tally(std::num::wrapping_add_u64(self.0, 4294967296 * (w as u64) + 1))
+        Tally(self.0.wrapping_add(4294967296 * u64::from(w) + 1))
     }
 
     // The arrival at a node that is opened, or of which nothing is listed.

@@ -5,6 +5,7 @@ ghost use Rattle.twofold_layout.specs.Levels.{top_level, deeper};
 use table::layout;
 
 // Where the level of the root begins.
+#[tactic(auto, unfolding(crate::specs::Levels::top_level))]
 pub fn top(capacity: u32) -> u32
     ensures { result ≡ top_level capacity }
 {
@@ -12,6 +13,7 @@ pub fn top(capacity: u32) -> u32
 }
 
 // Where the next level begins.
+#[tactic(auto, unfolding(crate::specs::Levels::deeper))]
 pub fn deeper(base: u32, capacity: u32) -> u32
     ensures { result ≡ deeper base capacity }
 {

@@ -18,6 +18,7 @@ use Rattle.twofold_layout.specs.Sound.{Holding}
 use Rattle.table.specs.Header.{capacity_of}
 use Rattle.twofold_layout.specs.Gaps.{Unused, in_header, after_runs, in_level}
 use Rattle.twofold_layout.proofs.Frames.{OffTwo}
+use Rattle.std.specs.Prelude.{Some, Ok}
 use Rattle.primary_search.specs.Find.{find♯}
 use Rattle.whole_table.specs.Insert.{table_insert♯}
 use Rattle.whole_table.specs.Strike.{table_strike♯}
@@ -70,8 +71,8 @@ module _ (xs : List ℕ) (T : Main) (h : Holding xs T) (m : Mark) where
   insert-unused within graded new room i u =
       (insert-frame xs T h m within graded new room).same i (off-tree u) ∙ (insert-entered xs T h m within graded new room).same i (off-marks u)
 
-  pub strike-unused : 0 < count_if (same m) (marks_of T)
-      → (i : ℕ) → Unused (capacity_of xs) i → get_or (table_strike♯ (find♯ xs m) xs).words i 0 ≡ get_or xs i 0
-  strike-unused has i u =
-      let a = strike-frame xs T h m has in
+  pub strike-unused : 0 < count_if (same m) (marks_of T) → (s : ℕ) → find♯ xs m ≡ Ok (Some s)
+      → (i : ℕ) → Unused (capacity_of xs) i → get_or (table_strike♯ s xs).words i 0 ≡ get_or xs i 0
+  strike-unused has s e i u =
+      let a = strike-frame xs T h m has s e in
       a.2.same i (off-lists u) ∙ a.1.same i (off-tree u)

@@ -37,7 +37,8 @@ use Rattle.table.specs.Grades.{grading, sum_of, worst_of}
 use Rattle.table.specs.Figures.{packed, found_in, visits_in, grades_in}
 use Rattle.table.proofs.Packing.{grading-laws, passing-parts, passing-small, parts-sum, parts-worst, packed-found, packed-visits, packed-grades}
 use Rattle.nodes.specs.Count.{figures}
-use Rattle.table.specs.Limits.{most_visits, absent}
+use Rattle.table.specs.Limits.{most_visits}
+use Rattle.std.specs.Prelude.{None, Some, Ok}
 use Rattle.table.specs.After.{after}
 use Rattle.nodes.proofs.Levels.{most-levels, held-shallow}
 use Rattle.twofold_layout.specs.Rules.{SlotMain, slot_main, marks_main}
@@ -76,7 +77,7 @@ module _ (xs : List ℕ) where
 
   find-of : (o : Option SlotMain) → HoldsTree xs o → TreeByRules xs o → capacity_of xs ≤ 65536 → (s : ℕ)
       → 0 < times_in s (marks_of o)
-      → (find♯ xs (slot_mark xs s) ≡ s) × (s < capacity_of xs) × (times_in s (marks_of o) ≡ 1)
+      → (find♯ xs (slot_mark xs s) ≡ Ok (Some s)) × (s < capacity_of xs) × (times_in s (marks_of o) ≡ 1)
   find-of none k r small s n = absurd (omega arith)
   find-of (some t) k r small s n =
       let g = k.1.main in (
@@ -86,7 +87,7 @@ module _ (xs : List ℕ) where
       )
 
   missing-of : (o : Option SlotMain) → HoldsTree xs o → TreeByRules xs o → capacity_of xs ≤ 65536 → (m : Mark)
-      → count_if (λ s. same m (slot_mark xs s)) (marks_of o) ≡ 0 → find♯ xs m ≡ absent
+      → count_if (λ s. same m (slot_mark xs s)) (marks_of o) ≡ 0 → find♯ xs m ≡ Ok None
   missing-of none k r small m n = find_none xs m k
   missing-of (some t) k r small m n =
       let g = k.1.main in
@@ -178,14 +179,13 @@ module _ (xs : List ℕ) (T : Main) (h : Holding xs T) where
 
   -- the finding
   pub find-sound : (m : Mark) → 0 < count_if (same m) (marks_of T)
-      → (find♯ xs m < capacity_of xs) × (same m (slot_mark xs (find♯ xs m)) ≡ true) × (times_in (find♯ xs m) (marks_of h.slots) ≡ 1)
+      → (s : ℕ) × (find♯ xs m ≡ Ok (Some s)) × (s < capacity_of xs) × (same m (slot_mark xs s) ≡ true) × (times_in s (marks_of h.slots) ≡ 1)
   find-sound m n =
       let a = slot_of (slot_mark xs) m (marks_of h.slots) (subst (λ l. 0 < count_if (same m) l) holding-marks n) in
       let k = find-of xs h.slots h.holds h.rules holding-small a.0 a.1 in
-      let e : find♯ xs m ≡ a.0 = find-alike m (slot_mark xs a.0) a.2 xs ∙ k.0 in
-      rw e (k.1, a.2, k.2)
+      (a.0, find-alike m (slot_mark xs a.0) a.2 xs ∙ k.0, k.1, a.2, k.2)
 
-  pub find-missing : (m : Mark) → count_if (same m) (marks_of T) ≡ 0 → find♯ xs m ≡ absent
+  pub find-missing : (m : Mark) → count_if (same m) (marks_of T) ≡ 0 → find♯ xs m ≡ Ok None
   find-missing m n =
       missing-of xs h.slots h.holds h.rules holding-small m
       (sym (count_if-map (slot_mark xs) (same m) (marks_of h.slots)) ∙ ap (count_if (same m)) (sym holding-marks) ∙ n)

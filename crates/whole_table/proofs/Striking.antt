@@ -33,6 +33,7 @@ use Rattle.twofold_layout.proofs.Kept.{kept-header, kept-capacity, kept-lists}
 use Rattle.twofold_layout.proofs.Rules.{slot-count, strike-rules}
 use Rattle.twofold_layout.proofs.Stands.{stands-strike, stands-strike_rebuilt}
 use Rattle.secondary_update.proofs.Striking.{strike-leads, struck_node, leads-strikes, strikes-times}
+use Rattle.std.specs.Prelude.{Some, Ok}
 use Rattle.primary_search.specs.Find.{find♯}
 use Rattle.primary_strike.specs.Strike.{main_strike♯}
 use Rattle.primary_strike.proofs.Striking.{main_strike-holds, main_strike-lone}
@@ -122,12 +123,13 @@ module _ (xs : List ℕ) (s : ℕ) (small : capacity_of xs ≤ 65536) (long : le
 
 -- THE TABLE
 
-module _ (xs : List ℕ) (T : Main) (h : Holding xs T) (m : Mark) (has : 0 < count_if (same m) (marks_of T)) where
-  abbrev slot : ℕ
-  slot = find♯ xs m
-
+module _ (xs : List ℕ) (T : Main) (h : Holding xs T) (m : Mark) (has : 0 < count_if (same m) (marks_of T))
+    (slot : ℕ) (is_found : find♯ xs m ≡ Ok (Some slot)) where
   found : (slot < capacity_of xs) × (same m (slot_mark xs slot) ≡ true) × (times_in slot (marks_of h.slots) ≡ 1)
-  found = find-sound xs T h m has
+  found =
+      let k = find-sound xs T h m has in
+      let same_slot : k.0 ≡ slot = cc k.1 in
+      rw (← same_slot) (k.2, k.3, k.4)
 
   -- the words and the figure after the strike from the tree, before the slot is freed
   p : After ℕ
@@ -188,8 +190,8 @@ module _ (xs : List ℕ) (T : Main) (h : Holding xs T) (m : Mark) (has : 0 < cou
         free = freed.0;
       }
 
-  pub strike-sound : Holding (table_strike♯ (find♯ xs m) xs).words (main.strike m T)
-      × ((table_strike♯ (find♯ xs m) xs).out ≡ strike_rebuilt along_x auxiliary m T) × ((table_strike♯ (find♯ xs m) xs).out ≡ damaged → ⊥)
+  pub strike-sound : Holding (table_strike♯ slot xs).words (main.strike m T)
+      × ((table_strike♯ slot xs).out ≡ strike_rebuilt along_x auxiliary m T) × ((table_strike♯ slot xs).out ≡ damaged → ⊥)
   strike-sound =
       rw goes (
         taken-holding,
@@ -198,10 +200,10 @@ module _ (xs : List ℕ) (T : Main) (h : Holding xs T) (m : Mark) (has : 0 < cou
         taken.fine,
       )
 
-  pub strike-capacity : capacity_of (table_strike♯ (find♯ xs m) xs).words ≡ capacity_of xs
+  pub strike-capacity : capacity_of (table_strike♯ slot xs).words ≡ capacity_of xs
   strike-capacity = rw goes (free_slot-capacity frees ∙ lists.capacity)
 
   -- WHAT IT LEAVES ALONE: all but the tree's words, and then all but the live marks' and the lists of slots
   pub strike-frame : (zs : List ℕ) × TableFrame (capacity_of xs) xs zs
-      × Unchanged (OffLists (capacity_of xs)) zs (table_strike♯ (find♯ xs m) xs).words
+      × Unchanged (OffLists (capacity_of xs)) zs (table_strike♯ slot xs).words
   strike-frame = rw goes (zs, taken.frame, subst (λ c. Unchanged (OffLists c) zs (free_slot♯ slot zs)) lists.capacity (free_slot-unchanged slot zs frees))

@@ -3,18 +3,18 @@ ghost use Rattle.std.specs.Prelude.{◌≡◌, ◌≤◌, length};
 ghost use Rattle.table.specs.Layout.{runs_end};
 ghost use Rattle.whole_table.specs.Empty.{free_slots♯, empty♯};
 
-use nodes::primary::PrimaryArm;
-use table::{header, layout, runs};
+use nodes::arm::Arm;
+use nodes::primary::Primary;
+use table::runs::{self, PLACE, USED};
+use table::{header, layout};
 
 // Every slot is free, and stands at its own place in `used`.
 fn free_slots(t: &mut [u32], capacity: u32)
     ensures { t.new ≡ free_slots♯ capacity capacity t.old }
 {
-    let mut left = capacity;
-    while 0 < left {
-        left -= 1;
-        runs::put_used(t, capacity, left, left);
-        runs::put_place(t, capacity, left, left);
+    for s in (0..capacity).rev() {
+        runs::put::<USED>(t, capacity, s, s);
+        runs::put::<PLACE>(t, capacity, s, s);
     }
 }
 
@@ -26,6 +26,6 @@ pub fn empty(t: &mut [u32], capacity: u32)
     free_slots(t, capacity);
     header::put_capacity(t, capacity);
     header::put_live(t, 0);
-    PrimaryArm::store(t, layout::ROOT, PrimaryArm::none());
+    Arm::store(t, layout::ROOT, Arm::<Primary>::none());
     header::put_open(t, 1);
 }

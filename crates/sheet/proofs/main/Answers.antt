@@ -1,8 +1,7 @@
 -- `main` meets what it calls: the open of the whole array is accepted. Assumes nothing.
 use Prim.Native.Nat.{ℕ}
-use mathlib.Core.Path.{refl}
-use native.Mathlib.Omega.{arith}
-use lib.ListN.{replicate, length-replicate}
+use mathlib.Core.Path.{ap}
+use lib.ListN.{length, replicate, length-replicate}
 use Rattle.register.specs.Answers.{open_answer}
 use Rattle.dialogue.specs.Program.{table_words}
 use Rattle.dialogue.proofs.Printing.{open-begins}
@@ -13,14 +12,13 @@ run-requires c =
     let call = c.«open» in
     let table = open-begins (replicate {A = ℕ} table_words 0) call.new.table (open_answer call.result)
     (length-replicate {A = ℕ} table_words 0) call.ensures in
+    let opens = c.new-dialogue.ensures.opens in
+    let words = ap (λ w. w.table) opens.lent in
     record {
-      begun = record {
-        capacity = table.0;
-        empty = table.1;
-        first_words = refl;
-        second_words = refl;
-        line_bytes = omega arith;
-        no_line = refl;
-      };
-      room = (omega arith, omega arith);
+      capacity = rw words table.0;
+      empty = rw words table.1;
+      first_words = ap (λ w. length w.first) opens.lent;
+      second_words = ap (λ w. length w.second) opens.lent;
+      line_bytes = opens.line_bytes;
+      no_line = opens.no_line;
     }

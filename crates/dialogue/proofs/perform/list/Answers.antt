@@ -1,24 +1,13 @@
 -- `list` meets its contract. Assumes nothing.
-use Prim.Native.Nat.{ℕ}
+use mathlib.Core.Path.{◌≡◌, refl}
 use native.Mathlib.Omega.{arith}
-use borrow.Author.Tests.{eq-eqb, ne_eqb}
+use Rattle.std.specs.Prelude.{Ok, Err}
 use Rattle.geometry.specs.Values.{box_value}
-use Rattle.register.specs.Answers.{ListFigures, list_given}
+use Rattle.register.specs.Answers.{list_figures, list_given}
 use Rattle.register.specs.Performs.{lends}
 use Rattle.lines.specs.Commands.{list}
-use Rattle.dialogue.proofs.Answering.{answered-first, list-room, answered-list}
+use Rattle.dialogue.proofs.Answering.{answered-first, list-room, answered-list, accepted-line, refused-line}
 use Rattle.dialogue.proofs.perform.list.Goals as goal
-
-abbrev given : ℕ → ℕ → ℕ → ℕ → ListFigures
-given n m v w = record { number = n; k = m; visits = v; which = w }
-
-pub returns-then-f-eq0 : goal.returns-then-f-eq0
-returns-then-f-eq0 c =
-    let b = box_value c.args.b in
-    let r = c.figures-f in
-    let f = given r.result.number r.result.marks r.result.visits r.result.which in
-    answered-first (list b) _ _ _ (list_given f _ _) (rw (← r.ensures) at c.list.ensures)
-    (rw (eq-eqb f.which 0 c.if-f-eq0.true)) c.put_first-at.ensures
 
 pub put_marks-requires : goal.put_marks-requires
 put_marks-requires c =
@@ -26,54 +15,47 @@ put_marks-requires c =
     let left = c.list.new in
     let before = lends a.table.now a.first.now a.second.now in
     let after = lends a.table.now left.first left.second in
-    let r = c.figures-f in
-    let f = given r.result.number r.result.marks r.result.visits r.result.which in
-    let p = rw (← r.ensures) at c.list.ensures in
-    omega (
-      arith,
-      c.requires,
-      c.put_first-at.ensures.0,
-      list-room (box_value c.args.b) before after f p c.if-f-eq0.false,
-    )
+    let f = list_figures (Ok c.in-Ok.listed) in
+    let some : f.which ≡ 0 → ⊥ = rw c.in-First.is (λ z. omega arith) in
+    omega (arith, c.requires, c.put_figures-at.ensures.0, list-room (box_value a.b) before after f c.in-Ok.ensures some)
 
-pub returns-then-f-eq1 : goal.returns-then-f-eq1
-returns-then-f-eq1 c =
+pub returns-in-First : goal.returns-in-First
+returns-in-First c =
+    let a = c.args in
+    let left = c.list.new in
+    let before = lends a.table.now a.first.now a.second.now in
+    let after = lends a.table.now left.first left.second in
+    let f = list_figures (Ok c.in-Ok.listed) in
+    let some : f.which ≡ 0 → ⊥ = rw c.in-First.is (λ z. omega arith) in
+    answered-list (box_value a.b) before after f c.in-Ok.ensures some {mid = c.put_figures-at.new.out} {at = c.put_figures-at.result}
+    (rw (accepted-line 76 _) c.put_figures-at.ensures)
+    (rw c.in-First.is c.put_marks.ensures)
+
+pub put_marks-requires-in-Second : goal.put_marks-requires-in-Second
+put_marks-requires-in-Second c =
+    let a = c.args in
+    let left = c.list.new in
+    let before = lends a.table.now a.first.now a.second.now in
+    let after = lends a.table.now left.first left.second in
+    let f = list_figures (Ok c.in-Ok.listed) in
+    let some : f.which ≡ 0 → ⊥ = rw c.in-Second.is (λ z. omega arith) in
+    omega (arith, c.requires, c.put_figures-at.ensures.0, list-room (box_value a.b) before after f c.in-Ok.ensures some)
+
+pub returns-in-Second : goal.returns-in-Second
+returns-in-Second c =
+    let a = c.args in
+    let left = c.list.new in
+    let before = lends a.table.now a.first.now a.second.now in
+    let after = lends a.table.now left.first left.second in
+    let f = list_figures (Ok c.in-Ok.listed) in
+    let some : f.which ≡ 0 → ⊥ = rw c.in-Second.is (λ z. omega arith) in
+    answered-list (box_value a.b) before after f c.in-Ok.ensures some {mid = c.put_figures-at.new.out} {at = c.put_figures-at.result}
+    (rw (accepted-line 76 _) c.put_figures-at.ensures)
+    (rw c.in-Second.is c.put_marks-in-Second.ensures)
+
+pub returns-in-Err : goal.returns-in-Err
+returns-in-Err c =
     let b = box_value c.args.b in
-    let a = c.args in
     let left = c.list.new in
-    let before = lends a.table.now a.first.now a.second.now in
-    let after = lends a.table.now left.first left.second in
-    let r = c.figures-f in
-    let f = given r.result.number r.result.marks r.result.visits r.result.which in
-    let p = rw (← r.ensures) at c.list.ensures in
-    answered-list b before after f p c.if-f-eq0.false c.put_first-at.ensures
-    (rw (eq-eqb f.which 1 c.if-f-eq1.true) c.put_marks.ensures)
-
-pub put_marks-requires-2 : goal.put_marks-requires-2
-put_marks-requires-2 c =
-    let a = c.args in
-    let left = c.list.new in
-    let before = lends a.table.now a.first.now a.second.now in
-    let after = lends a.table.now left.first left.second in
-    let r = c.figures-f in
-    let f = given r.result.number r.result.marks r.result.visits r.result.which in
-    let p = rw (← r.ensures) at c.list.ensures in
-    omega (
-      arith,
-      c.requires,
-      c.put_first-at.ensures.0,
-      list-room (box_value c.args.b) before after f p c.if-f-eq0.false,
-    )
-
-pub returns : goal.returns
-returns c =
-    let b = box_value c.args.b in
-    let a = c.args in
-    let left = c.list.new in
-    let before = lends a.table.now a.first.now a.second.now in
-    let after = lends a.table.now left.first left.second in
-    let r = c.figures-f in
-    let f = given r.result.number r.result.marks r.result.visits r.result.which in
-    let p = rw (← r.ensures) at c.list.ensures in
-    answered-list b before after f p c.if-f-eq0.false c.put_first-at.ensures
-    (rw (ne_eqb f.which 1 c.if-f-eq1.false) c.put_marks-2.ensures)
+    answered-first (list b) _ _ _ (list_given (list_figures (Err c.in-Err.refusal)) left.first left.second) c.in-Err.ensures refl
+    (rw (refused-line c.in-Err.refusal 76 _, ← c.number.ensures) c.put_refusal.ensures)

@@ -1,107 +1,54 @@
 -- `parse` meets its contract: letter by letter. Assumes nothing.
-use borrow.Author.Tests.{eq-eqb, ne_eqb}
-use Rattle.lines.specs.Reading.{read♯}
+use mathlib.Core.Path.{sym, ap, ◌∙◌}
+use native.Mathlib.Omega.{arith}
+use lib.ListN.{get_or-eq_default}
+use Rattle.lines.specs.Reading.{some_of, insert_of, strike_of, count_of, list_of}
+use Rattle.lines.proofs.Places.{read-insert, read-strike, read-count, read-list, read-other}
 use Rattle.lines.proofs.command.parse.Goals as goal
 
+pub returns-in_err-x-in-73 : goal.returns-in_err-x-in-73
+returns-in_err-x-in-73 c =
+    rw c.from_residual.ensures
+    (ap (some_of insert_of) c.in_err-x-in-73.ensures ∙ sym (read-insert c.args.line.now (omega arith)))
+
+pub returns-in_ok-x-in-73 : goal.returns-in_ok-x-in-73
+returns-in_ok-x-in-73 c =
+    ap (some_of insert_of) c.in_ok-x-in-73.ensures ∙ sym (read-insert c.args.line.now (omega arith))
+
+pub returns-in_err-x-in-68 : goal.returns-in_err-x-in-68
+returns-in_err-x-in-68 c =
+    rw c.from_residual-in_err-x-in-68.ensures
+    (ap (some_of strike_of) c.in_err-x-in-68.ensures ∙ sym (read-strike c.args.line.now (omega arith)))
+
+pub returns-in_ok-x-in-68 : goal.returns-in_ok-x-in-68
+returns-in_ok-x-in-68 c =
+    ap (some_of strike_of) c.in_ok-x-in-68.ensures ∙ sym (read-strike c.args.line.now (omega arith))
+
+pub returns-in_err-x1-in-67 : goal.returns-in_err-x1-in-67
+returns-in_err-x1-in-67 c =
+    rw c.from_residual-in_err-x1-in-67.ensures
+    (ap (some_of count_of) c.in_err-x1-in-67.ensures ∙ sym (read-count c.args.line.now (omega arith)))
+
+pub returns-in_ok-x1-in-67 : goal.returns-in_ok-x1-in-67
+returns-in_ok-x1-in-67 c =
+    ap (some_of count_of) c.in_ok-x1-in-67.ensures ∙ sym (read-count c.args.line.now (omega arith))
+
+pub returns-in_err-x1-in-76 : goal.returns-in_err-x1-in-76
+returns-in_err-x1-in-76 c =
+    rw c.from_residual-in_err-x1-in-76.ensures
+    (ap (some_of list_of) c.in_err-x1-in-76.ensures ∙ sym (read-list c.args.line.now (omega arith)))
+
+pub returns-in_ok-x1-in-76 : goal.returns-in_ok-x1-in-76
+returns-in_ok-x1-in-76 c =
+    ap (some_of list_of) c.in_ok-x1-in-76.ensures ∙ sym (read-list c.args.line.now (omega arith))
+
 pub returns-in_default : goal.returns-in_default
-unfolding read♯
 returns-in_default c =
-    rw (
-      ← c.byte-letter.ensures,
-      eq-eqb _ 73 c.if-letter-eq73.true,
-      ← c.read_four.ensures,
-      c.in_default.is,
-    )
+    let line = c.args.line.now in
+    let none = get_or-eq_default line 0 {n = 0} (omega arith) in
+    sym (read-other line (λ e. omega arith) (λ e. omega arith) (λ e. omega arith) (λ e. omega arith))
 
-pub returns-then-letter-eq73 : goal.returns-then-letter-eq73
-unfolding read♯
-returns-then-letter-eq73 c =
-    rw (
-      ← c.byte-letter.ensures,
-      eq-eqb _ 73 c.if-letter-eq73.true,
-      ← c.read_four.ensures,
-      c.in-Numbers.is,
-    )
-
-pub returns-in_default-read_three : goal.returns-in_default-read_three
-unfolding read♯
-returns-in_default-read_three c =
-    rw (
-      ← c.byte-letter.ensures,
-      ne_eqb _ 73 c.if-letter-eq73.false,
-      eq-eqb _ 68 c.if-letter-eq68.true,
-      ← c.read_three.ensures,
-      c.in_default-read_three.is,
-    )
-
-pub returns-then-letter-eq68 : goal.returns-then-letter-eq68
-unfolding read♯
-returns-then-letter-eq68 c =
-    rw (
-      ← c.byte-letter.ensures,
-      ne_eqb _ 73 c.if-letter-eq73.false,
-      eq-eqb _ 68 c.if-letter-eq68.true,
-      ← c.read_three.ensures,
-      c.in-Numbers-read_three.is,
-    )
-
-pub returns-in_default-read_four : goal.returns-in_default-read_four
-unfolding read♯
-returns-in_default-read_four c =
-    rw (
-      ← c.byte-letter.ensures,
-      ne_eqb _ 73 c.if-letter-eq73.false,
-      ne_eqb _ 68 c.if-letter-eq68.false,
-      eq-eqb _ 67 c.if-letter-eq67.true,
-      ← c.read_four-then-letter-eq67.ensures,
-      c.in_default-read_four.is,
-    )
-
-pub returns-then-letter-eq67 : goal.returns-then-letter-eq67
-unfolding read♯
-returns-then-letter-eq67 c =
-    rw (
-      ← c.byte-letter.ensures,
-      ne_eqb _ 73 c.if-letter-eq73.false,
-      ne_eqb _ 68 c.if-letter-eq68.false,
-      eq-eqb _ 67 c.if-letter-eq67.true,
-      ← c.read_four-then-letter-eq67.ensures,
-      c.in-Numbers-read_four.is,
-    )
-
-pub returns-in_default-read_four-2 : goal.returns-in_default-read_four-2
-unfolding read♯
-returns-in_default-read_four-2 c =
-    rw (
-      ← c.byte-letter.ensures,
-      ne_eqb _ 73 c.if-letter-eq73.false,
-      ne_eqb _ 68 c.if-letter-eq68.false,
-      ne_eqb _ 67 c.if-letter-eq67.false,
-      eq-eqb _ 76 c.if-letter-eq76.true,
-      ← c.read_four-then-letter-eq76.ensures,
-      c.in_default-read_four-2.is,
-    )
-
-pub returns-then-letter-eq76 : goal.returns-then-letter-eq76
-unfolding read♯
-returns-then-letter-eq76 c =
-    rw (
-      ← c.byte-letter.ensures,
-      ne_eqb _ 73 c.if-letter-eq73.false,
-      ne_eqb _ 68 c.if-letter-eq68.false,
-      ne_eqb _ 67 c.if-letter-eq67.false,
-      eq-eqb _ 76 c.if-letter-eq76.true,
-      ← c.read_four-then-letter-eq76.ensures,
-      c.in-Numbers-read_four-2.is,
-    )
-
-pub returns : goal.returns
-unfolding read♯
-returns c =
-    rw (
-      ← c.byte-letter.ensures,
-      ne_eqb _ 73 c.if-letter-eq73.false,
-      ne_eqb _ 68 c.if-letter-eq68.false,
-      ne_eqb _ 67 c.if-letter-eq67.false,
-      ne_eqb _ 76 c.if-letter-eq76.false,
-    )
+pub returns-in_default-2 : goal.returns-in_default-2
+returns-in_default-2 c =
+    let line = c.args.line.now in
+    sym (read-other line (λ e. omega arith) (λ e. omega arith) (λ e. omega arith) (λ e. omega arith))

@@ -1,42 +1,43 @@
 -- `read_on` meets its contract. Assumes nothing.
-use mathlib.Core.Path.{refl, sym, ◌∙◌}
+use mathlib.Core.Path.{sym, ◌∙◌}
 use native.Mathlib.Omega.{arith}
-use Rattle.lines.proofs.Places.{read_on-low, read_on-high, read_on-large, read_on-digit, read_on-end}
+use Prim.Native.Nat.{◌-◌}
+use lib.ListN.{length, drop, length-drop}
+use lib.Seq.{take_all}
+use Rattle.lines.proofs.Places.{read_on-other, read_on-large, read_on-digit, read_on-end}
 use Rattle.lines.proofs.number.read_on.Goals as goal
 
-pub loop-at-init : goal.loop-at-init
-loop-at-init c = (omega arith, refl)
-
-pub returns-then-b-lt48 : goal.returns-then-b-lt48
-returns-then-b-lt48 c =
-    let at = c.loop-at in
+pub returns-then-not-is_ascii_digit : goal.returns-then-not-is_ascii_digit
+returns-then-not-is_ascii_digit c =
+    let at = c.loop-i in
     let line = c.args.line.now in
-    sym (read_on-low line at.at _ refl at.value c.if-b-lt48.true) ∙ at.invariant.1
+    rw (take_all (length line - at.i) (drop at.i line) (omega (arith, length-drop at.i line)))
+    (sym (read_on-other line at.i at.value c.loop-i-test.true (sym c.if-not-is_ascii_digit.ensures.value)) ∙ at.invariant)
 
-pub returns-then-b-gt57 : goal.returns-then-b-gt57
-returns-then-b-gt57 c =
-    let at = c.loop-at in
-    let line = c.args.line.now in
-    sym (read_on-high line at.at _ refl at.value c.if-b-gt57.true) ∙ at.invariant.1
+pub returns-in_err-checked_mul : goal.returns-in_err-checked_mul
+returns-in_err-checked_mul c =
+    let at = c.loop-i in
+    let digit = sym c.if-not-is_ascii_digit.ensures.value in
+    rw c.from_residual.ensures
+    (sym (read_on-large c.args.line.now at.i at.value c.loop-i-test.true digit (omega (arith, c.in_err-checked_mul.ensures))) ∙ at.invariant)
 
-pub returns-then-more-gt4294967295 : goal.returns-then-more-gt4294967295
-returns-then-more-gt4294967295 c =
-    let at = c.loop-at in
-    let line = c.args.line.now in
-    let inside = c.loop-at-test.true in
-    sym (read_on-large line at.at _ refl at.value inside c.if-b-lt48.false c.if-b-gt57.false c.if-more-gt4294967295.true) ∙ at.invariant.1
+pub returns-in_err-value : goal.returns-in_err-value
+returns-in_err-value c =
+    let at = c.loop-i in
+    let digit = sym c.if-not-is_ascii_digit.ensures.value in
+    rw c.from_residual-in_err-value.ensures
+    (sym (read_on-large c.args.line.now at.i at.value c.loop-i-test.true digit
+    (omega (arith, c.in_ok-checked_mul.ensures, c.in_err-value.ensures))) ∙ at.invariant)
 
-pub loop-at-preserved : goal.loop-at-preserved
-loop-at-preserved c =
-    let at = c.loop-at in
-    let line = c.args.line.now in
-    let inside = c.loop-at-test.true in (
-      omega (arith, c.if-more-gt4294967295.false),
-      sym (read_on-digit line at.at _ refl at.value inside c.if-b-lt48.false c.if-b-gt57.false c.if-more-gt4294967295.false) ∙ at.invariant.1,
-    )
+pub loop-i-preserved : goal.loop-i-preserved
+loop-i-preserved c =
+    let at = c.loop-i in
+    let digit = sym c.if-not-is_ascii_digit.ensures.value in
+    let tens = c.in_ok-checked_mul.ensures in
+    let more = c.in_ok-value.ensures in
+    sym (read_on-digit c.args.line.now at.i at.value c.loop-i-test.true digit c.in_ok-value.value (omega arith) (omega arith)) ∙ at.invariant
 
 pub returns : goal.returns
 returns c =
-    let at = c.loop-at in
-    let line = c.args.line.now in
-    sym (read_on-end line at.at at.value c.loop-at-test.false) ∙ at.invariant.1
+    let at = c.loop-i in
+    sym (read_on-end c.args.line.now at.i at.value c.loop-i-test.false) ∙ at.invariant

@@ -1,31 +1,13 @@
-use Rattle.primary_insert.specs.Insert.{afresh_once, main_afresh♯, put_rebuilt, rebuilt_at}
-use borrow.Author.Tests.{eq-eqb, ne_eqb}
+use Rattle.std.proofs.Common.{rules}
+use borrow.Author.Tests.{eq-eqb}
+use Rattle.std.proofs.lemmas.Result.{err_from_is_err_and}
 use Rattle.primary_insert.proofs.insert.insert_afresh.Goals as goal
 
-pub returns-then-done : goal.returns-then-done
-unfolding main_afresh♯ afresh_once rebuilt_at put_rebuilt
-returns-then-done c =
-    rw (← c.put-done.ensures, eq-eqb _ _ c.if-done.true)
+pub returns-in_err-put : goal.returns-in_err-put
+returns-in_err-put c =
+    let p = err_from_is_err_and c.from_residual.result c.from_residual.ensures.1 in search rules
 
-pub returns-then-b-eq0 : goal.returns-then-b-eq0
-unfolding main_afresh♯ afresh_once rebuilt_at put_rebuilt
-returns-then-b-eq0 c =
-    rw (
-      ← c.put-done.ensures,
-      ne_eqb _ _ c.if-done.false,
-      ← c.load-a.ensures,
-      ← c.rebuild-fresh.ensures,
-      eq-eqb _ _ c.if-b-eq0.true,
-    )
-
-pub returns : goal.returns
-unfolding main_afresh♯ afresh_once rebuilt_at put_rebuilt
-returns c =
-    rw (
-      ← c.put-done.ensures,
-      ne_eqb _ _ c.if-done.false,
-      ← c.load-a.ensures,
-      ← c.rebuild-fresh.ensures,
-      ne_eqb _ _ c.if-b-eq0.false,
-      ← c.store.ensures,
-    )
+pub returns-in_err-fresh : goal.returns-in_err-fresh
+returns-in_err-fresh c =
+    let p = err_from_is_err_and c.from_residual-in_err-fresh.result c.from_residual-in_err-fresh.ensures.1 in
+    rw (← c.in_ok-put.ensures, ← c.load-a.ensures, eq-eqb _ _ c.in_err-fresh.ensures.1, ← c.in_err-fresh.ensures.0, p.1)

@@ -1,9 +1,5 @@
--- The loop keeps: as many words; the arm at the word `at` is there; the insertion that is left, from `at` on with `left` levels, is the whole one. What falls:
--- left.
-use Prim.Native.Nat.{◌+◌, ◌<◌, ◌≤◌, ◌^◌}
-use mathlib.Core.Path.{◌≡◌}
-use mathlib.Core.Bool.{false}
-use lib.ListN.{length}
+-- The loop keeps: as many words; the arm at the word `at` is there; the insertion that is left, from `at` on with the turns that are left, is the whole one.
+use Rattle.std.proofs.Common.{◌≡◌, ◌+◌, ◌-◌, ◌<◌, ◌≤◌, ◌^◌, false, length}
 use Rattle.model.specs.Sheet.{along_x}
 use Rattle.geometry.specs.Values.{mark_value}
 use Rattle.table.specs.Layout.{arm_width, main_place}
@@ -11,11 +7,11 @@ use Rattle.table.specs.Limits.{deepest}
 use Rattle.secondary_update.specs.Insert.{insert♯}
 use Rattle.primary_insert.proofs.main_tree.put.Given as goal
 
-abbrev pub invariant-loop-left : goal.invariant-loop-left
-invariant-loop-left l =
-    (length l.t ≡ length l.initial.t) × (l.at < 2 ^ 40) × (l.at + arm_width ≤ length l.initial.t)
-    × (insert♯ along_x l.left l.capacity main_place (mark_value l.m) l.s false l.at l.t
-    ≡ insert♯ along_x deepest l.capacity main_place (mark_value l.m) l.s false l.initial.at l.initial.t)
-
-abbrev pub decreases-loop-left : goal.decreases-loop-left
-decreases-loop-left l = l.left
+abbrev pub invariant-loop-turn : goal.invariant-loop-turn
+invariant-loop-turn l = record {
+  long : length l.t ≡ length l.initial.t;
+  small : l.at < 2 ^ 40;
+  there : l.at + arm_width ≤ length l.initial.t;
+  rest : insert♯ along_x (deepest - l.turn) l.tree.capacity main_place (mark_value l.m) l.s false l.at l.t
+      ≡ insert♯ along_x deepest l.tree.capacity main_place (mark_value l.m) l.s false l.initial.at l.initial.t;
+}

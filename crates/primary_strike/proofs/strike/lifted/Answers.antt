@@ -1,7 +1,7 @@
-use Rattle.primary_strike.specs.Strike.{lifted♯}
+use Rattle.std.proofs.Common.{rules}
+use Rattle.secondary_update.specs.Updates.{strike_of}
 use Rattle.primary_strike.proofs.strike.lifted.Goals as goal
 
 pub returns : goal.returns
-unfolding lifted♯
-returns c =
-    rw (← c.deeper-from.ensures, ← c.lift.ensures, ← c.answer.ensures)
+unfolding strike_of
+returns c = search rules

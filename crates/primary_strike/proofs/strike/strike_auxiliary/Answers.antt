@@ -1,7 +1,7 @@
-use Rattle.primary_strike.specs.Strike.{arm_only, struck_auxiliary♯}
+use Rattle.std.proofs.Common.{rules}
+use Rattle.std.proofs.lemmas.Result.{err_from_is_err_and}
 use Rattle.primary_strike.proofs.strike.strike_auxiliary.Goals as goal
 
-pub returns : goal.returns
-unfolding struck_auxiliary♯ arm_only
-returns c =
-    rw (← c.strike-u.ensures)
+pub returns-in_err-u : goal.returns-in_err-u
+returns-in_err-u c =
+    let p = err_from_is_err_and c.from_residual.result c.from_residual.ensures.1 in search rules

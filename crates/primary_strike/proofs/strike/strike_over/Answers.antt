@@ -1,30 +1,25 @@
-use borrow.Author.Tests.{eq-eqb, ne_eqb}
-use Rattle.primary_strike.specs.Strike.{main_node_over}
+use Rattle.std.proofs.Common.{rules}
 use Rattle.secondary_update.specs.Strike.{strike_over}
+use Rattle.secondary_update.specs.Updates.{strike_of}
+use Rattle.secondary_update.proofs.Outcomes.{outcome-unwrap_or}
 use Rattle.primary_strike.proofs.strike.strike_over.Goals as goal
 
-pub returns-then-v : goal.returns-then-v
-unfolding main_node_over strike_over
-returns-then-v c =
-    rw (
-      ← c.fewer.ensures,
-      eq-eqb _ _ c.if-struck-fewer.true,
-      c.if-v.true,
-      ← c.node_over.ensures,
-    )
+pub returns-then-arm-fewer : goal.returns-then-arm-fewer
+unfolding strike_over strike_of
+returns-then-arm-fewer c =
+    let e = outcome-unwrap_or c.args.u _ _ c.none.ensures c.unwrap_or-rebuilt.ensures in search rules
 
-pub returns-then-struck-fewer : goal.returns-then-struck-fewer
-unfolding main_node_over strike_over
-returns-then-struck-fewer c =
-    rw (
-      ← c.fewer.ensures,
-      eq-eqb _ _ c.if-struck-fewer.true,
-      c.if-v.false,
-      ← c.renamed-named.ensures.is,
-      ← c.node_over-then-struck-fewer.ensures,
-    )
+pub returns-in_err-auxiliary : goal.returns-in_err-auxiliary
+unfolding strike_over strike_of
+returns-in_err-auxiliary c =
+    let e = outcome-unwrap_or c.args.u _ _ c.none.ensures c.unwrap_or-rebuilt.ensures in search rules
+
+pub returns-then-v : goal.returns-then-v
+unfolding strike_over strike_of
+returns-then-v c =
+    let e = outcome-unwrap_or c.args.u _ _ c.none.ensures c.unwrap_or-rebuilt.ensures in search rules
 
 pub returns : goal.returns
-unfolding main_node_over strike_over
+unfolding strike_over strike_of
 returns c =
-    rw (← c.fewer.ensures, ne_eqb _ _ c.if-struck-fewer.false, ← c.damaged.ensures)
+    let e = outcome-unwrap_or c.args.u _ _ c.none.ensures c.unwrap_or-rebuilt.ensures in search rules

@@ -1,19 +1,15 @@
-use Prim.Native.Nat.{ℕ, ◌<◌}
-use Rattle.secondary_build.specs.Build.{build_node, build♯-node}
 use native.Mathlib.Omega.{arith}
+use Rattle.secondary_build.specs.Build.{build_node, build♯-leaf, build♯-node}
 use Rattle.secondary_build.proofs.build.+build.Goals as goal
 
-node : (n : ℕ) → 3 < n → 1 < n
-node n h = omega arith
+pub returns-in-1 : goal.returns-in-1
+returns-in-1 t c = rw (build♯-leaf c.args.n (omega arith), ← c.leaf.ensures)
 
-pub returns-then-n-le3 : goal.returns-then-n-le3
-returns-then-n-le3 t c = rw (← c.build_few.ensures)
-
-pub returns : goal.returns
+pub returns-in_default : goal.returns-in_default
 unfolding build_node
-returns t c =
+returns-in_default t c =
     rw (
-      build♯-node _ (node _ c.if-n-le3.false),
+      build♯-node c.args.n (omega arith),
       ← c.build-l.ensures,
       ← c.build-r.ensures,
       ← c.run_slot-name.ensures.is,

@@ -1,28 +1,18 @@
+use borrow.Author.Tests.{ne_eqb}
+use mathlib.Core.Path.{◌≡◌}
+use native.Mathlib.Omega.{arith}
+use Rattle.std.proofs.lemmas.Result.{err_from_is_err_and}
 use Rattle.secondary_update.specs.Insert.{afresh♯, rebuilt_at, put_fresh}
-use borrow.Author.Tests.{eq-eqb, ne_eqb}
 use Rattle.secondary_update.proofs.insert.afresh.Goals as goal
 
-pub returns-then-done-eq-DAMAGED : goal.returns-then-done-eq-DAMAGED
+pub returns-in_err-fresh-clause-is : goal.returns-in_err-fresh-clause-is
 unfolding afresh♯ rebuilt_at put_fresh
-returns-then-done-eq-DAMAGED c = rw (eq-eqb _ _ c.if-done-eq-DAMAGED.true)
+returns-in_err-fresh-clause-is c =
+    let p = err_from_is_err_and c.from_residual.result c.from_residual.ensures.1 in
+    rw (← c.load-a.ensures, ← c.in_err-fresh.ensures.is, p.1)
 
-pub returns-then-fresh-eq0 : goal.returns-then-fresh-eq0
+pub returns-clause-is : goal.returns-clause-is
 unfolding afresh♯ rebuilt_at put_fresh
-returns-then-fresh-eq0 c =
-    rw (
-      ne_eqb _ _ c.if-done-eq-DAMAGED.false,
-      ← c.load-a.ensures,
-      ← c.rebuild-fresh.ensures,
-      eq-eqb _ _ c.if-fresh-eq0.true,
-    )
-
-pub returns : goal.returns
-unfolding afresh♯ rebuilt_at put_fresh
-returns c =
-    rw (
-      ne_eqb _ _ c.if-done-eq-DAMAGED.false,
-      ← c.load-a.ensures,
-      ← c.rebuild-fresh.ensures,
-      ne_eqb _ _ c.if-fresh-eq0.false,
-      ← c.store.ensures,
-    )
+returns-clause-is c =
+    let some : c.in_ok-fresh.fresh.weight ≡ 0 → ⊥ = omega (arith, c.in_ok-fresh.ensures.weight) in
+    rw (← c.load-a.ensures, ← c.in_ok-fresh.ensures.is, ne_eqb _ 0 some, ← c.store.ensures)

@@ -1,5 +1,6 @@
--- The loop keeps: as many words; the arms at the words `at` and `top` are there; the insertion that is left, from `at` on with `left` levels, and then what is
--- to be built afresh at `top`, is the whole one. What falls: left.
+-- The loop keeps: as many words; the arm at the word `at` is there, and the one at `top` where there is one; the insertion that is left, from `at` on, and then
+-- what is to be built afresh at `top`, is the whole one.
+use Rattle.std.specs.Prelude.{is_none, IfSome, ◌-◌}
 use Rattle.secondary_update.specs.Insert.{ended, insert♯}
 use Prim.Native.Nat.{◌+◌, ◌<◌, ◌≤◌, ◌^◌}
 use mathlib.Core.Path.{◌≡◌}
@@ -11,11 +12,13 @@ use Rattle.table.specs.Layout.{arm_width, record_place}
 use Rattle.table.specs.Limits.{deepest}
 use Rattle.secondary_update.proofs.insert.insert_beneath.Given as goal
 
-abbrev pub invariant-loop-left : goal.invariant-loop-left
-invariant-loop-left l =
-    (length l.t ≡ length l.initial.t) × (l.at < 2 ^ 40) × (l.at + arm_width ≤ length l.initial.t) × (l.top + arm_width ≤ length l.initial.t)
-    × (ended l.base l.capacity l.mends l.top (insert♯ along_y l.left l.capacity (record_place l.base) (mark_value l.m) l.s l.mends l.at l.t)
-    ≡ insert♯ along_y deepest l.capacity (record_place l.base) (mark_value l.m) l.s true l.initial.at l.initial.t)
-
-abbrev pub decreases-loop-left : goal.decreases-loop-left
-decreases-loop-left l = l.left
+abbrev pub invariant-loop-turn : goal.invariant-loop-turn
+invariant-loop-turn l = record {
+  long : length l.t ≡ length l.initial.t;
+  small : l.at < 2 ^ 40;
+  there : l.at + arm_width ≤ length l.initial.t;
+  top : IfSome l.top (λ w. w + arm_width ≤ length l.initial.t);
+  rest : ended l.tree.base l.tree.capacity l.top
+      (insert♯ along_y (deepest - l.turn) l.tree.capacity (record_place l.tree.base) (mark_value l.m) l.s (is_none l.top) l.at l.t)
+      ≡ insert♯ along_y deepest l.tree.capacity (record_place l.tree.base) (mark_value l.m) l.s true l.initial.at l.initial.t;
+}

@@ -1,38 +1,30 @@
 use borrow.Author.Tests.{le-leb, lt-leb}
-use borrow.Author.Rules.{rules}
 use Rattle.secondary_update.specs.Strike.{strike_child, strike_node, strike_way, strike♯-suc, strike♯-zero}
 use Rattle.secondary_update.proofs.strike.+strike_beneath.Goals as goal
 
 pub returns-then-fuel-eq0 : goal.returns-then-fuel-eq0
-unfolding strike_node strike_way strike_child
-returns-then-fuel-eq0 t c = rw (strike♯-zero _ c.if-fuel-eq0.true, ← c.damaged.ensures)
+returns-then-fuel-eq0 t c = rw (strike♯-zero _ c.if-fuel-eq0.true)
 
-pub returns-then-capacity-name : goal.returns-then-capacity-name
-unfolding strike_node strike_way strike_child
-returns-then-capacity-name t c =
+pub returns-then-tree-name : goal.returns-then-tree-name
+unfolding strike_node
+returns-then-tree-name t c =
     rw (
       strike♯-suc _ c.if-fuel-eq0.false,
       ← c.slot-name.ensures,
-      le-leb _ _ c.if-capacity-name.true,
-      ← c.damaged-then-capacity-name.ensures,
+      le-leb _ _ c.if-tree-name.true,
     )
 
 pub returns-then-disagree : goal.returns-then-disagree
-unfolding strike_node strike_way strike_child
+unfolding strike_node strike_way
 returns-then-disagree t c =
     rw (
       strike♯-suc _ c.if-fuel-eq0.false,
       ← c.slot-name.ensures,
-      lt-leb _ _ c.if-capacity-name.false,
+      lt-leb _ _ c.if-tree-name.false,
       ← c.way-v.ensures,
       ← c.disagree.ensures,
       c.if-disagree.true,
-      ← c.damaged-then-disagree.ensures,
     )
-
-pub strike_over-requires : goal.strike_over-requires
-strike_over-requires t c =
-    search (rules, c.if-fuel-eq0.false, c.requires)
 
 pub returns-then-stays_balanced : goal.returns-then-stays_balanced
 unfolding strike_node strike_way strike_child
@@ -40,7 +32,7 @@ returns-then-stays_balanced t c =
     rw (
       strike♯-suc _ c.if-fuel-eq0.false,
       ← c.slot-name.ensures,
-      lt-leb _ _ c.if-capacity-name.false,
+      lt-leb _ _ c.if-tree-name.false,
       ← c.way-v.ensures,
       ← c.disagree.ensures,
       c.if-disagree.false,
@@ -56,7 +48,7 @@ returns t c =
     rw (
       strike♯-suc _ c.if-fuel-eq0.false,
       ← c.slot-name.ensures,
-      lt-leb _ _ c.if-capacity-name.false,
+      lt-leb _ _ c.if-tree-name.false,
       ← c.way-v.ensures,
       ← c.disagree.ensures,
       c.if-disagree.false,

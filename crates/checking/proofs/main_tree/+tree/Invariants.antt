@@ -1,4 +1,0 @@
-use Rattle.checking.proofs.main_tree.+tree.Given as goal
-
-abbrev pub decreases-tree : goal.decreases-tree
-decreases-tree l = l.fuel

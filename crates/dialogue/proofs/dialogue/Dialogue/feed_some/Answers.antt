@@ -1,0 +1,33 @@
+-- `feed_some` meets its contract. Assumes nothing.
+use mathlib.Core.Path.{refl}
+use native.Mathlib.Omega.{arith}
+use Rattle.dialogue.specs.Dialogue.{none}
+use Rattle.dialogue.proofs.Feeding.{fed-next, keeps-on}
+use Rattle.dialogue.proofs.dialogue.Dialogue.feed_some.Goals as goal
+
+pub loop-used-init : goal.loop-used-init
+loop-used-init c = (
+  refl,
+  record {
+    table = refl;
+    first = refl;
+    second = refl;
+    out = refl;
+    table_length = refl;
+    first_length = refl;
+    second_length = refl;
+    out_length = refl;
+  },
+  λ e. refl,
+  none,
+)
+
+pub loop-used-preserved : goal.loop-used-preserved
+loop-used-preserved c =
+    let now = c.loop-used in
+    let fed = c.feed.ensures in (
+      omega (arith, now.invariant.0, fed.keeps.first_length),
+      keeps-on now.invariant.1 fed.keeps,
+      λ e. absurd (omega arith),
+      rw fed.fed.gathered (fed-next c.args.chunk.now now.used c.loop-used-test.true now.invariant.3 fed.fed.holds),
+    )

@@ -1,0 +1,38 @@
+-- What the crate's values mean. Assumes nothing.
+use Rattle.std.specs.Prelude.{ℕ, ◌≤◌, ◌≡◌, List, ◌++◌, length, take}
+use Rattle.register.specs.Performs.{Lent, lends}
+use Rattle.lines.specs.Input.{longest_line}
+use Rattle.dialogue.specs.Dialogue as model
+use Rattle.dialogue.specs.Dialogue.{dialogue}
+use Rattle.dialogue.specs.declared.dialogue.Dialogue.{Dialogue}
+
+-- the words that a dialogue holds
+abbrev pub lent_of : Dialogue → Lent
+lent_of d = lends d.table.now d.first.now d.second.now
+
+-- and the line that stands open
+abbrev pub held_by : Dialogue → model.Dialogue
+held_by d = dialogue (lent_of d) d.line.bytes d.line.len
+
+-- a dialogue that has been opened on these words
+pub record Opens (w : Lent) (d : Dialogue) : Type 0 where
+  pub lent : lent_of d ≡ w
+  pub line_bytes : longest_line ≤ length d.line.bytes
+  pub no_line : d.line.len ≡ 0
+
+-- a dialogue gone on with: it holds the same lent runs, of the same lengths
+pub record Keeps (before after : Dialogue) : Type 0 where
+  pub table : after.table.ghost_name ≡ before.table.ghost_name
+  pub first : after.first.ghost_name ≡ before.first.ghost_name
+  pub second : after.second.ghost_name ≡ before.second.ghost_name
+  pub out : after.out.ghost_name ≡ before.out.ghost_name
+  pub table_length : length after.table.now ≡ length before.table.now
+  pub first_length : length after.first.now ≡ length before.first.now
+  pub second_length : length after.second.now ≡ length before.second.now
+  pub out_length : length after.out.now ≡ length before.out.now
+
+-- behind the text gathered stands one more, of which that holds
+pub record Gathers (before after : Dialogue) (P : List ℕ → Type 0) : Type 0 where
+  pub text : List ℕ
+  pub gathered : take after.gathered after.out.now ≡ take before.gathered before.out.now ++ text
+  pub holds : P text

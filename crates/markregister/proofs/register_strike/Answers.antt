@@ -1,6 +1,0 @@
-use Rattle.register.specs.Performs.{Performs}
-use mathlib.Core.Path.{sym, subst}
-use Rattle.markregister.proofs.register_strike.Goals as goal
-
-pub returns : goal.returns
-returns c = subst (Performs _ _ _) (sym c.figures-struck.ensures) c.strike.ensures

@@ -1,6 +1,0 @@
-use Rattle.nodes.specs.Arms.{leaf_arm}
-use Rattle.nodes.proofs.primary.PrimaryArm.leaf.Goals as goal
-
-pub returns : goal.returns
-unfolding leaf_arm
-returns c = rw (← c.leaf.ensures, ← c.of.ensures)

@@ -1,6 +1,0 @@
-use Rattle.secondary_update.specs.Updates.{strike_of}
-use Rattle.primary_strike.proofs.strike.answer.Goals as goal
-
-pub returns : goal.returns
-unfolding strike_of
-returns c = cc
