@@ -1,10 +1,10 @@
 -- The mirror of the collection of a tree's slots. Assumes nothing.
-use Rattle.std.specs.Prelude.{ℕ, zero, suc, ◌+◌, ◌-◌, ◌/◌, ◌%◌, ◌≡◌, Result, Ok, Err}
+use Rattle.std.specs.Prelude.{ℕ, zero, suc, ◌+◌, ◌-◌, ◌/◌, ◌%◌, ◌≡◌, Option, None, Some, Result, Ok, Err}
 use Rattle.std.specs.Prelude.{refl, Bool, false, List, leb, ltb, eqb, set, if◌then◌else◌}
 use Rattle.std.proofs.Common.{arith}
 use Rattle.table.specs.Layout.{run_place}
 use Rattle.table.specs.After.{After, after}
-use Rattle.table.specs.Limits.{deepest}
+use Rattle.table.specs.Limits.{deepest, no_slot}
 use Rattle.table.specs.declared.damage.Damaged.{Damaged}
 use Rattle.nodes.specs.Arms.{Record, record_at}
 
@@ -23,6 +23,11 @@ Collection = ℕ → ℕ → ℕ → List ℕ → Taken
 abbrev pub go_on : (ℕ → List ℕ → Taken) → Result ℕ Damaged → List ℕ → Taken
 go_on rest (Ok taken) xs = rest taken xs
 go_on rest (Err d) xs = after (Err d) xs
+
+-- the slot that is left out of a collection: where none is, that of no table
+abbrev pub left_out : Option ℕ → ℕ
+left_out None = no_slot
+left_out (Some s) = s
 
 unfoldable pub collect_parts : Collection → Record → ℕ → ℕ → List ℕ → Taken
 collect_parts rec p w taken xs =

@@ -2,7 +2,7 @@
 ghost use Rattle.std.specs.Prelude.{◌≡◌, true, ◌<◌, ◌≤◌, length};
 ghost use Rattle.table.specs.After.{after};
 ghost use Rattle.table.specs.Layout.{runs_end};
-ghost use Rattle.nodes.specs.Collect.{collect_leaf, collect♯, gather♯};
+ghost use Rattle.nodes.specs.Collect.{left_out, collect_leaf, collect♯, gather♯};
 
 use crate::arm::Node;
 use crate::record::Record;
@@ -11,16 +11,16 @@ use table::damage::Damaged;
 use table::limits;
 use table::runs::{self, RUN_A};
 
-// Writes a leaf's slot into run A, but for the slot `but`, and gives how many slots it has then.
+// Writes a leaf's slot into run A, unless it is the slot `but`, and gives how many slots it has then.
 #[tactic(auto, unfolding(crate::specs::Collect::collect_leaf))]
-fn take(t: &mut [u32], capacity: u32, but: u32, s: u32, taken: u32) -> Result<u32, Damaged>
+fn take(t: &mut [u32], capacity: u32, but: Option<u32>, s: u32, taken: u32) -> Result<u32, Damaged>
     requires { (taken < capacity) × (runs_end capacity ≤ length t.old) }
-    ensures { after result t.new ≡ collect_leaf capacity but s taken t.old }
+    ensures { after result t.new ≡ collect_leaf capacity (left_out but) s taken t.old }
 {
     if capacity <= s {
         return Err(Damaged);
     }
-    if s == but {
+    if but == Some(s) {
         return Ok(taken);
     }
     runs::store::<RUN_A>(t, capacity, taken, s);
@@ -34,13 +34,13 @@ fn collect<T: Tree>(
     t: &mut [u32],
     tree: T,
     node: Node<T>,
-    but: u32,
+    but: Option<u32>,
     taken: u32,
     weight: u32,
     fuel: u32,
 ) -> Result<u32, Damaged>
     requires { (runs_end (T.capacity tree) ≤ length t.old) × (T.end tree ≤ length t.old) }
-    ensures { after result t.new ≡ collect♯ fuel (T.place tree) (T.capacity tree) but weight node.0 taken t.old }
+    ensures { after result t.new ≡ collect♯ fuel (T.place tree) (T.capacity tree) (left_out but) weight node.0 taken t.old }
 {
     let capacity = tree.capacity();
     let mut at = node;
@@ -81,10 +81,11 @@ fn collect<T: Tree>(
 }
 
 impl<T: Tree> Node<T> {
-    // Whether the slots of its tree, of that weight, but `but` are `many`: some, and no more than the capacity. They stand in run A then, in order.
-    pub fn gather(self, t: &mut [u32], tree: T, weight: u32, but: u32, many: u32) -> bool
+    // Whether the slots of its tree, of that weight, are `many`, the slot `but` left out if one is given: some, and no more than the capacity. They stand in
+    // run A then, in order.
+    pub fn gather(self, t: &mut [u32], tree: T, weight: u32, but: Option<u32>, many: u32) -> bool
         requires { (runs_end (T.capacity tree) ≤ length t.old) × (T.end tree ≤ length t.old) }
-        ensures is { after result t.new ≡ gather♯ (T.place tree) (T.capacity tree) but many weight self.0 t.old }
+        ensures is { after result t.new ≡ gather♯ (T.place tree) (T.capacity tree) (left_out but) many weight self.0 t.old }
         ensures fits { result ≡ true → (0 < many) × (many ≤ T.capacity tree) }
     {
         let capacity = tree.capacity();

@@ -75,14 +75,7 @@ fn insert_afresh(
     };
     main_tree::put(t, tree, at, m, s)?;
     let a = Arm::load(t, at);
-    let fresh = primary_build::build::rebuild(
-        t,
-        level,
-        a.node,
-        a.weight,
-        limits::NO_SLOT,
-        a.weight,
-    )?;
+    let fresh = primary_build::build::rebuild(t, level, a.node, a.weight, None, a.weight)?;
     Arm::store(t, at, fresh.arm);
     Ok(a.weight)
 }

@@ -53,7 +53,7 @@ fn strike_afresh(
     ensures { after (strike_outcome result) t.new ≡ struck_afresh♯ level.capacity s level.base weight node.0 t.old }
 {
     let many = weights::fewer(weight);
-    let fresh = primary_build::build::rebuild(t, level, node, weight, s, many)?;
+    let fresh = primary_build::build::rebuild(t, level, node, weight, Some(s), many)?;
     Ok(Struck {
         arm: fresh.arm,
         rebuilt: many,

@@ -4,6 +4,7 @@ ghost use Rattle.model.specs.Sheet.{along_y};
 ghost use Rattle.table.specs.After.{after};
 ghost use Rattle.table.specs.Layout.{record_width, record_place, runs_end, level_end};
 ghost use Rattle.nodes.specs.Values.{arm_value};
+ghost use Rattle.nodes.specs.Collect.{left_out};
 ghost use Rattle.secondary_build.specs.Build.{run_leaf, build_over, build♯, rebuild♯};
 ghost use Rattle.secondary_build.specs.Values.{rebuilt_arm};
 
@@ -80,18 +81,18 @@ pub fn build(t: &mut [u32], tree: Secondary, i: u32, n: u32) -> Arm<Secondary>
     }
 }
 
-// Builds the tree of a node of that weight afresh without the slot `but`, which leaves it `many` slots, where the words hold such a tree.
+// Builds the tree of a node of that weight afresh without the slot `but`, if one is given, which leaves it `many` slots, where the words hold such a tree.
 pub fn rebuild(
     t: &mut [u32],
     tree: Secondary,
     node: Node<Secondary>,
     weight: u32,
-    but: u32,
+    but: Option<u32>,
     many: u32,
 ) -> Result<Arm<Secondary>, Damaged>
     requires { (runs_end tree.capacity ≤ length t.old) × (level_end tree.base tree.capacity ≤ length t.old) }
     ensures is { after (rebuilt_arm result) t.new
-        ≡ rebuild♯ along_y (record_place tree.base) tree.capacity but many weight node.0 t.old }
+        ≡ rebuild♯ along_y (record_place tree.base) tree.capacity (left_out but) many weight node.0 t.old }
     ensures weight { IfOk result (λ a. (a.weight ≡ many) × (0 < many) × (many ≤ tree.capacity)) }
 {
     if node.gather(t, tree, weight, but, many) {

@@ -47,14 +47,7 @@ fn afresh(t: &mut [u32], tree: Secondary, at: usize) -> Result<u32, Damaged>
     ensures within { IfOk result (λ n. n ≤ tree.capacity) }
 {
     let a = Arm::load(t, at);
-    let fresh = secondary_build::build::rebuild(
-        t,
-        tree,
-        a.node,
-        a.weight,
-        limits::NO_SLOT,
-        a.weight,
-    )?;
+    let fresh = secondary_build::build::rebuild(t, tree, a.node, a.weight, None, a.weight)?;
     Arm::store(t, at, fresh);
     Ok(a.weight)
 }

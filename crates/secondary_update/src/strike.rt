@@ -93,7 +93,7 @@ fn strike_afresh(
     ensures { after (struck_value result) t.new ≡ strike_afresh along_y tree.capacity (record_place tree.base) s weight node.0 t.old }
 {
     let many = weights::fewer(weight);
-    let fresh = secondary_build::build::rebuild(t, tree, node, weight, s, many);
+    let fresh = secondary_build::build::rebuild(t, tree, node, weight, Some(s), many);
     Struck {
         arm: fresh.unwrap_or(Arm::none()),
         rebuilt: many,

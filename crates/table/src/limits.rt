@@ -6,9 +6,6 @@ pub const DEEPEST: u32 = 40;
 // More levels than a tree of three marks has: in a balanced tree the sibling of a leaf has no more marks.
 pub const SIBLING_DEEPEST: u32 = 3;
 
-// No slot of any table: none is left out.
-pub const NO_SLOT: u32 = 4294967295;
-
 // The tally of a listing that met damage: more visits than any budget, and so many that a few visits more leave it so.
 pub const LOST: u64 = 2147483648;
 
