@@ -44,12 +44,12 @@ module _ (A : Axis Mark Box) where
   has_leaf♯ slot s a xs = slot s && same_arm a (slot_arm s xs)
 
   -- whether a node of that name stands over two trees: it is named after the right one's least slot, and the left one's marks are below
-  abbrev pub joins♯ : NodeTest → ℕ → Ends → Ends → List ℕ → Bool
-  joins♯ test name x y xs = eqb y.first name && A.below (slot_mark xs x.last) (slot_mark xs name) && test x.first y.last
+  abbrev pub stands_over♯ : NodeTest → ℕ → Ends → Ends → List ℕ → Bool
+  stands_over♯ test name x y xs = eqb y.first name && A.below (slot_mark xs x.last) (slot_mark xs name) && test x.first y.last
 
   abbrev pub span_over : NodeTest → ℕ → Option Ends → Option Ends → List ℕ → Option Ends
   span_over test name p q xs =
-      option_and_then (λ x. option_and_then (λ y. then_some (joins♯ test name x y xs) (ends x.first y.last)) q) p
+      option_and_then (λ x. option_and_then (λ y. then_some (stands_over♯ test name x y xs) (ends x.first y.last)) q) p
 
   -- A tree's slots pass `slot`, and its inner nodes `test`, given where the node's level begins, its name and its weight; `next` is where the level
   -- beneath begins.

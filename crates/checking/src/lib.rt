@@ -9,4 +9,5 @@ pub mod check;
 pub mod checked;
 pub mod ends;
 pub mod main_tree;
+pub mod slots;
 pub mod walk;

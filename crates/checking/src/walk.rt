@@ -2,7 +2,7 @@
 ghost use Rattle.std.specs.Prelude.{◌≡◌, ℕ, Bool, ◌+◌, ◌<◌, ◌≤◌, length, IfSome};
 ghost use Rattle.table.specs.Layout.{record_width};
 ghost use Rattle.nodes.specs.Values.{arm_value};
-ghost use Rattle.checking.specs.Span.{NodeTest, Within, has_leaf♯, joins♯, tree_span};
+ghost use Rattle.checking.specs.Span.{NodeTest, Within, has_leaf♯, stands_over♯, tree_span};
 ghost use Rattle.checking.specs.declared.checked.Checked.{Checked};
 
 use crate::arms;
@@ -61,9 +61,16 @@ fn has_leaf<T: Tree, W: Walk<T>>(w: &W, s: u32, a: Arm<T>) -> bool
 
 // Whether a node of that name and weight stands over two trees: it is named after the right one's least slot, the marks of the left one are below those of the
 // right one, and it passes.
-fn joins<T: Tree, W: Walk<T>>(w: &W, base: u32, name: u32, weight: u32, x: Ends, y: Ends) -> bool
+fn stands_over<T: Tree, W: Walk<T>>(
+    w: &W,
+    base: u32,
+    name: u32,
+    weight: u32,
+    x: Ends,
+    y: Ends,
+) -> bool
     requires { (name < (W.of w.now).capacity) × Within (W.of w.now).capacity x × Within (W.of w.now).capacity y }
-    ensures { result ≡ joins♯ T.Along.along (W.test w.now base name weight) name x y (W.of w.now).t.now }
+    ensures { result ≡ stands_over♯ T.Along.along (W.test w.now base name weight) name x y (W.of w.now).t.now }
 {
     let k = w.of();
     let both = Ends {
@@ -108,5 +115,5 @@ pub fn span<T: Tree, W: Walk<T>>(w: &W, base: u32, a: Arm<T>, fuel: u32) -> Opti
         first: x.first,
         last: y.last,
     };
-    joins(w, base, name, a.weight, x, y).then_some(both)
+    stands_over(w, base, name, a.weight, x, y).then_some(both)
 }
