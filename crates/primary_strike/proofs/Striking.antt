@@ -34,13 +34,12 @@ use Rattle.twofold_layout.specs.TwoFold.{TwoFold}
 use Rattle.twofold_layout.proofs.Frames.{TwoFrame, arm-two_frame}
 use Rattle.twofold_layout.proofs.Rules.{rules-left, rules-right}
 use Rattle.twofold_layout.proofs.Over.{TwoLeavesAt, two-left, two-right, top-level, deeper-level, two-main}
-use Rattle.secondary_update.specs.Strike.{strike_over}
+use Rattle.secondary_update.specs.Strike.{Striking, strike_over, strike_child, strike_beneath♯}
 use Rattle.secondary_update.proofs.Inserting.{rebuilt-weight}
 use Rattle.secondary_update.proofs.Striking.{strike-leads, struck_node, renamed-least, apart-least}
 use Rattle.secondary_update.proofs.Striking.{Strikes, left_goes, right_goes, in_left, in_right, leads-strikes, strikes-in, strikes-weight}
 use Rattle.secondary_update.specs.Updates.{Strike, strike_of}
-use Rattle.primary_strike.specs.Strike.{MainStriking, struck_auxiliary♯, main_child}
-use Rattle.primary_strike.specs.Strike.{strike_beneath♯, put_struck, main_strike♯}
+use Rattle.primary_strike.specs.Strike.{struck_auxiliary♯, main, main_strike_beneath♯, put_struck, main_strike♯}
 use Rattle.twofold_layout.proofs.Node.{root-leaves}
 use Rattle.primary_strike.proofs.Steps.{LeavesMain, struck-rules, goes-holds, afresh-holds}
 use Rattle.primary_strike.proofs.Steps.{node-struck, struck-long, struck-left, struck-right, left-node, right-node}
@@ -60,25 +59,26 @@ module _ (f : ℕ → Mark) (C : ℕ) (small : C ≤ 65536) (s : ℕ) where
   R = slot_auxiliary f
 
   -- `rec` strikes t to t' at depth d
-  abbrev StruckBy : MainStriking → ℕ → SlotMain → SlotMain → Type 0
+  abbrev StruckBy : Striking → ℕ → SlotMain → SlotMain → Type 0
   StruckBy rec d t t' =
       (xs : List ℕ) → length xs ≡ W C → TwoFold f C d xs t → LeavesMain f C s d xs t t' (rec (level_place C d) (weight t) (number t) xs)
 
   -- the mirror at an inner node of depth d strikes the left child, or the right one
-  module _ (rec : MainStriking) (d : ℕ) (l r : SlotMain) (xs : List ℕ) where
+  module _ (rec : Striking) (d : ℕ) (l r : SlotMain) (xs : List ℕ) where
     abbrev lefts : After Strike
-    lefts = main_child rec C (f s) s (least r) (way true (arm_of along_x f l) (arm_of along_x f r)) (level_place C d) (weight l + weight r) (2 * least r + 1) xs
+    lefts = strike_child main rec C main_place (f s) s (least r) (way true (arm_of along_x f l) (arm_of along_x f r)) (level_place C d) (weight l + weight r)
+        (2 * least r + 1) xs
 
     abbrev rights : After Strike
-    rights = main_child rec C (f s) s (least r) (way false (arm_of along_x f r) (arm_of along_x f l)) (level_place C d) (weight l + weight r)
+    rights = strike_child main rec C main_place (f s) s (least r) (way false (arm_of along_x f r) (arm_of along_x f l)) (level_place C d) (weight l + weight r)
         (2 * least r + 1) xs
 
   -- at a node whose words are right, the mirror goes by the order
   beneath-node : (n d : ℕ) (i : SlotAuxiliary) (l r : SlotMain) (xs : List ℕ) → TwoFold f C d xs (node i l r)
-      → strike_beneath♯ (suc n) C (f s) s (level_place C d) (weight l + weight r) (2 * least r + 1) xs
-      ≡ (let rec : MainStriking = strike_beneath♯ n C (f s) s in
+      → main_strike_beneath♯ (suc n) C (f s) s (level_place C d) (weight l + weight r) (2 * least r + 1) xs
+      ≡ (let rec : Striking = main_strike_beneath♯ n C (f s) s in
       let v : Way = way_of (arms (arm_of along_x f l) (arm_of along_x f r)) (along_x.below (f s) (f (least r))) in
-      main_child rec C (f s) s (least r) v (level_place C d) (weight l + weight r) (2 * least r + 1) xs)
+      strike_child main rec C main_place (f s) s (least r) v (level_place C d) (weight l + weight r) (2 * least r + 1) xs)
   unfolding strike_beneath♯ way_at
   beneath-node n d i l r xs h =
       let half : (2 * least r + 1) / 2 ≡ least r = omega arith in
@@ -95,7 +95,7 @@ module _ (f : ℕ → Mark) (C : ℕ) (small : C ≤ 65536) (s : ℕ) where
       )
 
   -- THE STEPS where the slot's leaf is a child of the node
-  left-goes : (rec : MainStriking) (d : ℕ) (i : SlotAuxiliary) (r : SlotMain) (xs : List ℕ) → length xs ≡ W C → TwoFold f C d xs (node i (leaf s) r)
+  left-goes : (rec : Striking) (d : ℕ) (i : SlotAuxiliary) (r : SlotMain) (xs : List ℕ) → length xs ≡ W C → TwoFold f C d xs (node i (leaf s) r)
       → ByRules f (node i (leaf s) r) → d + depth (node i (leaf s) r) ≤ D C
       → LeavesMain f C s d xs (node i (leaf s) r) r (lefts rec d (leaf s) r xs)
   unfolding first_left
@@ -104,7 +104,7 @@ module _ (f : ℕ → Mark) (C : ℕ) (small : C ≤ 65536) (s : ℕ) where
       (goes-holds f C small s d r xs (node i (leaf s) r) (least r) ln (two-right h) (rules-right f b) (omega (arith, b.balanced.0))
       (omega arith) (λ e. refl))
 
-  right-goes : (rec : MainStriking) (d : ℕ) (i : SlotAuxiliary) (l : SlotMain) (xs : List ℕ) → length xs ≡ W C → TwoFold f C d xs (node i l (leaf s))
+  right-goes : (rec : Striking) (d : ℕ) (i : SlotAuxiliary) (l : SlotMain) (xs : List ℕ) → length xs ≡ W C → TwoFold f C d xs (node i l (leaf s))
       → ByRules f (node i l (leaf s)) → d + depth (node i l (leaf s)) ≤ D C
       → LeavesMain f C s d xs (node i l (leaf s)) l (rights rec d l (leaf s) xs)
   unfolding first_left
@@ -114,7 +114,7 @@ module _ (f : ℕ → Mark) (C : ℕ) (small : C ≤ 65536) (s : ℕ) where
       (omega arith) (λ e. absurd (apart-least i l (leaf s) s h.main.once (times-least {I = SlotAuxiliary} (leaf s)) e)))
 
   -- THE STEPS where it stands deeper
-  module _ (rec : MainStriking) (d : ℕ) (i : SlotAuxiliary) (l r : SlotMain) (xs : List ℕ) (ln : length xs ≡ W C)
+  module _ (rec : Striking) (d : ℕ) (i : SlotAuxiliary) (l r : SlotMain) (xs : List ℕ) (ln : length xs ≡ W C)
       (h : TwoFold f C d xs (node i l r)) (b : ByRules f (node i l r)) (level : d < D C) where
     abbrev here : SlotAuxiliary
     here = R.strike s i
@@ -229,27 +229,27 @@ module _ (f : ℕ → Mark) (C : ℕ) (small : C ≤ 65536) (s : ℕ) where
   -- along the way
   strikes-beneath : (n : ℕ) {t t' : SlotMain} → Strikes along_x f s R t t' → (d : ℕ) → ByRules f t → d + depth t ≤ D C
       → d + depth (rebalance X R t') ≤ D C
-      → depth t < n → depth t < 40 → StruckBy (strike_beneath♯ n C (f s) s) d t t'
+      → depth t < n → depth t < 40 → StruckBy (main_strike_beneath♯ n C (f s) s) d t t'
   unfolding way_of
   strikes-beneath zero k d b deep deep' fuel low = absurd (omega arith)
   strikes-beneath (suc n) (left_goes {i = i} {r = r} e) d b deep deep' fuel low = λ xs ln h.
-      rw (beneath-node n d i (leaf s) r xs h, e) (left-goes (strike_beneath♯ n C (f s) s) d i r xs ln h b deep)
+      rw (beneath-node n d i (leaf s) r xs h, e) (left-goes (main_strike_beneath♯ n C (f s) s) d i r xs ln h b deep)
   strikes-beneath (suc n) (right_goes {i = i} {l = l} e) d b deep deep' fuel low = λ xs ln h.
-      rw (beneath-node n d i l (leaf s) xs h, e) (right-goes (strike_beneath♯ n C (f s) s) d i l xs ln h b deep)
+      rw (beneath-node n d i l (leaf s) xs h, e) (right-goes (main_strike_beneath♯ n C (f s) s) d i l xs ln h b deep)
   strikes-beneath (suc n) (in_left {i = i} {l = l} {l' = l'} {r = r} e k) d b deep deep' fuel low = λ xs ln h.
       rw (beneath-node n d i l r xs h, e)
-      (left-deeper (strike_beneath♯ n C (f s) s) d i l r xs ln h b (omega (arith, deep)) l' e k low deep'
+      (left-deeper (main_strike_beneath♯ n C (f s) s) d i l r xs ln h b (omega (arith, deep)) l' e k low deep'
       (λ z. strikes-beneath n k (suc d) (rules-left f b) (omega (arith, deep)) z (omega (arith, fuel)) (omega (arith, low))))
   strikes-beneath (suc n) (in_right {i = i} {l = l} {r = r} {r' = r'} e k) d b deep deep' fuel low = λ xs ln h.
       rw (beneath-node n d i l r xs h, e)
-      (right-deeper (strike_beneath♯ n C (f s) s) d i l r xs ln h b (omega (arith, deep)) r' e k low deep'
+      (right-deeper (main_strike_beneath♯ n C (f s) s) d i l r xs ln h b (omega (arith, deep)) r' e k low deep'
       (λ z. strikes-beneath n k (suc d) (rules-right f b) (omega (arith, deep)) z (omega (arith, fuel)) (omega (arith, low))))
 
   -- THE STRIKE beneath a node
   pub strike_beneath-holds : (fuel : ℕ) {t t' : SlotMain} → Strikes along_x f s (slot_auxiliary f) t t' → (d : ℕ) (xs : List ℕ) → length xs ≡ W C
       → TwoFold f C d xs t → ByRules f t → d + depth t ≤ D C
       → d + depth (rebalance (slot_axis f along_x) (slot_auxiliary f) t') ≤ D C → depth t < fuel → depth t < 40
-      → LeavesMain f C s d xs t t' (strike_beneath♯ fuel C (f s) s (level_place C d) (weight t) (number t) xs)
+      → LeavesMain f C s d xs t t' (main_strike_beneath♯ fuel C (f s) s (level_place C d) (weight t) (number t) xs)
   strike_beneath-holds fuel k d xs ln h b deep deep' n low = strikes-beneath fuel k d b deep deep' n low xs ln h
 
   -- the arm goes to the root
@@ -284,7 +284,7 @@ module _ (f : ℕ → Mark) (C : ℕ) (small : C ≤ 65536) (s : ℕ) where
       let a = strike_beneath-holds deepest k 0 xs ln h b (omega (arith, held-depth h.main b.balanced)) (omega (arith, struck-depth k h))
       (omega (arith, low)) (omega (arith, low)) in
       rw (arm, ne_eqb ((2 * least r + 1) % 2) 0 odd, top-level C small)
-      (put_holds xs (strike_beneath♯ deepest C (f s) s (level_place C 0) (weight l + weight r) (2 * least r + 1) xs) k ln b a)
+      (put_holds xs (main_strike_beneath♯ deepest C (f s) s (level_place C 0) (weight l + weight r) (2 * least r + 1) xs) k ln b a)
 
   -- and from a lone leaf, which leaves no tree
   pub main_strike-lone : (q : ℕ) (xs : List ℕ) → length xs ≡ W C → arm_at xs root_place ≡ arm_of {I = SlotAuxiliary} along_x f (leaf q)

@@ -8,7 +8,7 @@ use Rattle.nodes.specs.Values.{arm_value}
 use Rattle.nodes.specs.declared.arm.Arm.{Arm}
 use Rattle.secondary_build.specs.Values.{rebuilt_arm}
 use Rattle.secondary_update.specs.Values.{struck_value, strike_outcome}
-use Rattle.secondary_update.specs.declared.strike.Struck.{Struck}
+use Rattle.secondary_update.specs.declared.walk.Struck.{Struck}
 
 module _ {T : Type 0} where
   pub outcome-unwrap_or : (u : Result (Struck T) Damaged) (v : Struck T) (a : Arm T) → arm_value a ≡ no_arm

@@ -36,7 +36,7 @@ use Rattle.nodes.proofs.Without.{without, without-append, without-none}
 use Rattle.secondary_build.proofs.Building.{rebuild-holds}
 use Rattle.secondary_update.specs.Updates.{Strike, strike_of}
 use Rattle.secondary_update.specs.Strike.{Striking, node_over, strike_over, fresh_strike, strike_afresh}
-use Rattle.secondary_update.specs.Strike.{strike_here, strike_child, strike_way, strike_node, strike♯, sound_strike}
+use Rattle.secondary_update.specs.Strike.{strike_child, strike_beneath♯, auxiliary, strike♯, sound_strike}
 use Rattle.secondary_update.proofs.Node.{over-left, over-right}
 
 -- a slot that would be below itself, were it s, is not s
@@ -221,13 +221,19 @@ module _ {I : Type 0} (A : Axis Mark Box) (f : ℕ → Mark) (R : Register ℕ B
         first = λ z. a.1 ∙ ap least (sym e) ∙ least-marks (rebalance X R t') t' (rebalance-marks X R t');
       }
 
+  -- the mirror beneath a node with so many levels to go, and at a node whose children are told
+  abbrev beneath : ℕ → Striking
+  beneath n = strike_beneath♯ A (auxiliary A) C place (f s) s n
+
+  abbrev child : Striking → ℕ → Way → ℕ → ℕ → List ℕ → After Strike
+  child rec name v w n xs = strike_child (auxiliary A) rec C place (f s) s name v 0 w n xs
+
   -- at a node whose record is sound, the mirror goes by the order
   strike♯-node : (n : ℕ) (i : I) (l r : Tree ℕ I) (xs : List ℕ) → Held A f place C xs (node i l r)
       → strike♯ A (suc n) C place (f s) s (weight l + weight r) (2 * least r + 1) xs
-      ≡ (let rec : Striking = strike♯ A n C place (f s) s in
-      let p : Record = arms (arm_of A f l) (arm_of A f r) in
-      strike_child A rec C place s (least r) (way_of p (A.below (f s) (f (least r)))) (weight l + weight r) (2 * least r + 1) xs)
-  unfolding strike♯ strike_node strike_way way_at
+      ≡ (let p : Record = arms (arm_of A f l) (arm_of A f r) in
+      child (beneath n) (least r) (way_of p (A.below (f s) (f (least r)))) (weight l + weight r) (2 * least r + 1) xs)
+  unfolding strike_beneath♯ way_at
   strike♯-node n i l r xs h =
       let half : (2 * least r + 1) / 2 ≡ least r = omega arith in
       let p : Record = arms (arm_of A f l) (arm_of A f r) in
@@ -245,15 +251,15 @@ module _ {I : Type 0} (A : Axis Mark Box) (f : ℕ → Mark) (R : Register ℕ B
   -- the slot's leaf is the node's left, or right, child
   left-goes : (rec : Striking) (i : I) (r : Tree ℕ I) (xs : List ℕ) → Held A f place C xs (node i (leaf s) r) → Balanced (node i (leaf s) r)
       → LeavesStruck xs (node i (leaf s) r) r
-      (strike_child A rec C place s (least r) (way true (arm_of {I = I} A f (leaf s)) (arm_of A f r)) (1 + weight r) (2 * least r + 1) xs)
-  unfolding strike_child strike_here first_left
+      (child rec (least r) (way true (arm_of {I = I} A f (leaf s)) (arm_of A f r)) (1 + weight r) (2 * least r + 1) xs)
+  unfolding strike_of first_left
   left-goes rec i r xs h b =
       rw (heavy-none (weight r) (weight-pos r)) (stays xs (node i (leaf s) r) r (least r) (held-right h) b.3 (λ e. refl))
 
   right-goes : (rec : Striking) (i : I) (l : Tree ℕ I) (xs : List ℕ) → Held A f place C xs (node i l (leaf s)) → Balanced (node i l (leaf s))
       → LeavesStruck xs (node i l (leaf s)) l
-      (strike_child A rec C place s s (way false (arm_of {I = I} A f (leaf s)) (arm_of A f l)) (weight l + 1) (2 * s + 1) xs)
-  unfolding strike_child strike_here first_left
+      (child rec s (way false (arm_of {I = I} A f (leaf s)) (arm_of A f l)) (weight l + 1) (2 * s + 1) xs)
+  unfolding strike_of first_left
   right-goes rec i l xs h b =
       rw (heavy-none (weight l) (weight-pos l))
       (stays xs (node i l (leaf s)) l 0 (held-left h) b.2 (λ e. absurd (apart-least i l (leaf s) s h.once (times-least {I = I} (leaf s)) e)))
@@ -262,21 +268,21 @@ module _ {I : Type 0} (A : Axis Mark Box) (f : ℕ → Mark) (R : Register ℕ B
       (b : Balanced (node i l r)) (deep : depth (node i l r) < 40) where
     -- the mirror strikes the left child, or the right one
     abbrev lefts : After Strike
-    lefts = strike_child A rec C place s (least r) (way true (arm_of A f l) (arm_of A f r)) (weight l + weight r) (2 * least r + 1) xs
+    lefts = child rec (least r) (way true (arm_of A f l) (arm_of A f r)) (weight l + weight r) (2 * least r + 1) xs
 
     abbrev rights : After Strike
-    rights = strike_child A rec C place s (least r) (way false (arm_of A f r) (arm_of A f l)) (weight l + weight r) (2 * least r + 1) xs
+    rights = child rec (least r) (way false (arm_of A f r) (arm_of A f l)) (weight l + weight r) (2 * least r + 1) xs
 
     node-apart : (z : ℕ) → times z l + times z r ≤ 1
     node-apart z = omega (arith, h.once z, times-node z i l r)
 
     -- the slot stands deeper on the left, and the node will be even
-    left-even : (l' : Tree ℕ I) → Strikes A f s R l l' → evenly l' r ≡ true → LeavesStruck xs l l' (rec (weight l) (number l) xs)
+    left-even : (l' : Tree ℕ I) → Strikes A f s R l l' → evenly l' r ≡ true → LeavesStruck xs l l' (rec 0 (weight l) (number l) xs)
         → LeavesStruck xs (node i l r) (node (R.strike s i) l' r) lefts
-    unfolding strike_child strike_over node_over strike_of
+    unfolding strike_over node_over strike_of
     left-even l' k even q =
         let j : I = R.strike s i in
-        let p : After Strike = rec (weight l) (number l) xs in
+        let p : After Strike = rec 0 (weight l) (number l) xs in
         let m : Tree ℕ I = rebalance X R l' in
         let w = strikes-weight A f s R k in
         let less : weight l - 1 ≡ weight l' = omega arith in
@@ -290,12 +296,12 @@ module _ {I : Type 0} (A : Axis Mark Box) (f : ℕ → Mark) (R : Register ℕ B
         }
 
     -- or on the right
-    right-even : (r' : Tree ℕ I) → Strikes A f s R r r' → evenly l r' ≡ true → LeavesStruck xs r r' (rec (weight r) (number r) xs)
+    right-even : (r' : Tree ℕ I) → Strikes A f s R r r' → evenly l r' ≡ true → LeavesStruck xs r r' (rec 0 (weight r) (number r) xs)
         → LeavesStruck xs (node i l r) (node (R.strike s i) l r') rights
-    unfolding strike_child strike_over node_over strike_of
+    unfolding strike_over node_over strike_of
     right-even r' k even q =
         let j : I = R.strike s i in
-        let p : After Strike = rec (weight r) (number r) xs in
+        let p : After Strike = rec 0 (weight r) (number r) xs in
         let m : Tree ℕ I = rebalance X R r' in
         let w = strikes-weight A f s R k in
         let less : weight r - 1 ≡ weight r' = omega arith in
@@ -322,7 +328,6 @@ module _ {I : Type 0} (A : Axis Mark Box) (f : ℕ → Mark) (R : Register ℕ B
     -- the node will not be even
     left-uneven : (l' : Tree ℕ I) → A.below (f s) (f (least r)) ≡ true → Strikes A f s R l l' → evenly l' r ≡ false
         → LeavesStruck xs (node i l r) (node (R.strike s i) l' r) lefts
-    unfolding strike_child strike_here
     left-uneven l' e k uneven =
         let j : I = R.strike s i in
         let w = strikes-weight A f s R k in
@@ -334,7 +339,6 @@ module _ {I : Type 0} (A : Axis Mark Box) (f : ℕ → Mark) (R : Register ℕ B
 
     right-uneven : (r' : Tree ℕ I) → A.below (f s) (f (least r)) ≡ false → Strikes A f s R r r' → evenly l r' ≡ false
         → LeavesStruck xs (node i l r) (node (R.strike s i) l r') rights
-    unfolding strike_child strike_here
     right-uneven r' e k uneven =
         let j : I = R.strike s i in
         let w = strikes-weight A f s R k in
@@ -351,21 +355,19 @@ module _ {I : Type 0} (A : Axis Mark Box) (f : ℕ → Mark) (R : Register ℕ B
     unfolding way_of
     strikes-holds zero k h b d deep = absurd (omega arith)
     strikes-holds (suc n) (left_goes {i = i} {r = r} e) h b d deep =
-        rw (strike♯-node n i (leaf s) r xs h, e) (left-goes (strike♯ A n C place (f s) s) i r xs h b)
+        rw (strike♯-node n i (leaf s) r xs h, e) (left-goes (beneath n) i r xs h b)
     strikes-holds (suc n) (right_goes {i = i} {l = l} e) h b d deep =
-        rw (strike♯-node n i l (leaf s) xs h, e) (right-goes (strike♯ A n C place (f s) s) i l xs h b)
+        rw (strike♯-node n i l (leaf s) xs h, e) (right-goes (beneath n) i l xs h b)
     strikes-holds (suc n) (in_left {i = i} {l = l} {l' = l'} {r = r} e k) h b d deep =
-        let rec : Striking = strike♯ A n C place (f s) s in
         rw (strike♯-node n i l r xs h, e)
         (by_cases (evenly l' r)
-        (λ t. left-even xs g rec i l r h b deep l' k t (strikes-holds n k (held-left h) b.2 (omega arith) (omega arith)))
-        (λ t. left-uneven xs g rec i l r h b deep l' e k t))
+        (λ t. left-even xs g (beneath n) i l r h b deep l' k t (strikes-holds n k (held-left h) b.2 (omega arith) (omega arith)))
+        (λ t. left-uneven xs g (beneath n) i l r h b deep l' e k t))
     strikes-holds (suc n) (in_right {i = i} {l = l} {r = r} {r' = r'} e k) h b d deep =
-        let rec : Striking = strike♯ A n C place (f s) s in
         rw (strike♯-node n i l r xs h, e)
         (by_cases (evenly l r')
-        (λ t. right-even xs g rec i l r h b deep r' k t (strikes-holds n k (held-right h) b.3 (omega arith) (omega arith)))
-        (λ t. right-uneven xs g rec i l r h b deep r' e k t))
+        (λ t. right-even xs g (beneath n) i l r h b deep r' k t (strikes-holds n k (held-right h) b.3 (omega arith) (omega arith)))
+        (λ t. right-uneven xs g (beneath n) i l r h b deep r' e k t))
 
     -- THE STRIKE of a slot from a tree of two or more
     pub strike-holds : (n : ℕ) (i : I) (l r : Tree ℕ I) → Leads A f s (node i l r) → Held A f place C xs (node i l r) → Balanced (node i l r)

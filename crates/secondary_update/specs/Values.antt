@@ -1,9 +1,11 @@
 -- What the code's answers mean. Assumes nothing.
 use Rattle.std.specs.Prelude.{Result, Ok, Err}
+use Rattle.table.specs.After.{after}
 use Rattle.table.specs.declared.damage.Damaged.{Damaged}
 use Rattle.nodes.specs.Values.{arm_value}
 use Rattle.secondary_update.specs.Updates.{Strike, strike, no_strike}
-use Rattle.secondary_update.specs.declared.strike.Struck.{Struck}
+use Rattle.secondary_update.specs.Strike.{Writing}
+use Rattle.secondary_update.specs.declared.walk.Struck.{Struck}
 
 module _ {T : Type 0} where
   abbrev pub struck_value : Struck T → Strike
@@ -13,3 +15,8 @@ module _ {T : Type 0} where
   abbrev pub strike_outcome : Result (Struck T) Damaged → Strike
   strike_outcome (Ok u) = struck_value u
   strike_outcome (Err _) = no_strike
+
+-- a node is written where what it has beside its children is not damaged
+abbrev pub written_if : {B : Type 0} → (B → Writing) → Result B Damaged → Writing
+written_if writing (Ok b) = writing b
+written_if writing (Err _) = λ name l r rebuilt first xs. after no_strike xs

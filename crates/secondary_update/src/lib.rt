@@ -4,3 +4,4 @@
 
 pub mod insert;
 pub mod strike;
+pub mod walk;
