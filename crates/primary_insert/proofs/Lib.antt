@@ -4,4 +4,3 @@ pub mod Ready
 pub mod Afresh
 pub mod Leaf
 pub mod Inserting
-pub mod Steps

@@ -1,7 +1,6 @@
 -- The mirror of the insertion into the two-fold tree. Assumes nothing.
-use Rattle.std.specs.Prelude.{ℕ, zero, suc, ◌+◌, ◌-◌, ◌/◌, ◌%◌, ◌≤◌, ◌<◌, ◌^◌}
-use Rattle.std.specs.Prelude.{◌≡◌, true, false, not, List, leb, eqb, length, if◌then◌else◌}
-use Rattle.std.proofs.Common.{arith}
+use Rattle.std.specs.Prelude.{ℕ, zero, suc, ◌+◌, ◌/◌, ◌%◌, ◌≤◌, ◌<◌, ◌^◌}
+use Rattle.std.specs.Prelude.{◌≡◌, refl, true, false, not, List, leb, eqb, length, if◌then◌else◌}
 use Rattle.model.specs.Sheet.{Mark, along_x}
 use Rattle.table.specs.Layout.{arm_width, runs_end, main_place, auxiliary_place, root_place}
 use Rattle.table.specs.Limits.{deepest, damaged, no_slot}
@@ -10,6 +9,7 @@ use Rattle.nodes.specs.Arms.{Arm, Way, leaf_arm, grown_arm, arm_at, put_arm, chi
 use Rattle.nodes.specs.Ways.{way_at}
 use Rattle.table.specs.After.{After, after}
 use Rattle.twofold_layout.specs.Levels.{top_level, deeper}
+use Rattle.secondary_update.specs.Descent.{Steps, turn♯}
 use Rattle.secondary_update.specs.Insert.{split♯, split_name, insert♯, auxiliary_insert♯}
 use Rattle.nodes.specs.Weights.{unbalances}
 use Rattle.primary_build.specs.Build.{Freshly, main_rebuild♯}
@@ -76,17 +76,24 @@ unfoldable pub insert_beneath♯ : ℕ → ℕ → Mark → ℕ → MainInsertio
 insert_beneath♯ zero capacity m s base at xs = after damaged xs
 insert_beneath♯ (suc f) capacity m s base at xs = main_insert_node (insert_beneath♯ f capacity m s) capacity m s base at xs
 
--- the insertion from a turn of the walk on
-pub insert_beneath♯-turn : (turn : ℕ) → turn < deepest → (capacity : ℕ) (m : Mark) (s base at : ℕ) (xs : List ℕ)
-    → insert_beneath♯ (deepest - turn) capacity m s base at xs
-    ≡ main_insert_node (insert_beneath♯ (deepest - (turn + 1)) capacity m s) capacity m s base at xs
-unfolding insert_beneath♯
-insert_beneath♯-turn turn h capacity m s base at xs = let e : deepest - turn ≡ suc (deepest - (turn + 1)) = omega arith in rw e
-
 pub insert_beneath♯-zero : (f : ℕ) → f ≡ 0 → (capacity : ℕ) (m : Mark) (s base at : ℕ) (xs : List ℕ)
     → insert_beneath♯ f capacity m s base at xs ≡ after damaged xs
 unfolding insert_beneath♯
 insert_beneath♯-zero f e capacity m s base at xs = rw e
+
+-- what is done beside the arms and the records of the main tree
+abbrev pub main_steps : ℕ → ℕ → Mark → ℕ → ℕ → Steps
+main_steps capacity base m s turns = record {
+  grow = λ name xs. auxiliary_insert♯ base capacity m s name xs;
+  begin = λ made k xs. pair_auxiliary capacity m s base made k xs;
+  afresh = λ at xs. main_afresh♯ capacity m s base at xs;
+  onward = λ at xs. insert_beneath♯ turns capacity m s (deeper base capacity) at xs;
+}
+
+pub main-turns : (capacity base : ℕ) (m : Mark) (s turns at : ℕ) (xs : List ℕ)
+    → insert_beneath♯ (suc turns) capacity m s base at xs ≡ turn♯ along_x capacity main_place true m s (main_steps capacity base m s turns) at xs
+unfolding insert_beneath♯
+main-turns capacity base m s turns at xs = refl
 
 abbrev pub insert_root : Mark → ℕ → ℕ → Arm → List ℕ → After ℕ
 insert_root m s capacity a xs =

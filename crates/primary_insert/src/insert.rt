@@ -1,123 +1,77 @@
-// Insertion: down from the root, each arm on the way written once, and each auxiliary tree on the way updated, before the node's children are looked at.
-ghost use Rattle.std.specs.Prelude.{◌≡◌, ◌/◌, ◌<◌, ◌≤◌, length};
+// Insertion into the two-fold tree: on the way down in the main tree, each node's auxiliary tree is updated.
+ghost use Rattle.std.specs.Prelude.{◌≡◌, refl, true, ◌^◌, ◌<◌, ◌≤◌, length};
 ghost use Rattle.geometry.specs.Values.{mark_value};
 ghost use Rattle.table.specs.After.{after};
 ghost use Rattle.table.specs.Damage.{figure_of};
 ghost use Rattle.table.specs.Layout.{runs_end};
-ghost use Rattle.table.specs.Limits.{deepest};
-ghost use Rattle.nodes.specs.Values.{arm_value};
-ghost use Rattle.primary_insert.specs.Insert.{Stands, main_leaf♯, grow♯, main_afresh♯, insert_beneath♯, main_insert♯};
+ghost use Rattle.primary_insert.specs.Insert.{insert_beneath♯, insert_beneath♯-zero, main_steps, main-turns, main_insert♯};
 
-use crate::main_tree;
 use geometry::Mark;
 use nodes::arm::Arm;
 use nodes::primary::Primary;
-use nodes::record::Record;
 use nodes::secondary::Secondary;
-use nodes::weights;
+use secondary_update::descent::{Insertion, descend};
 use secondary_update::insert;
 use table::damage::Damaged;
 use table::{layout, limits, slots};
 use twofold_layout::levels;
 
-// Makes a node of a leaf and the mark m of slot s, with the auxiliary tree of the two. Two marks are balanced: nothing is built afresh.
-fn insert_at_leaf(
-    t: &mut [u32],
+// The main tree at the nodes of one depth, which carry the auxiliary trees of a level.
+#[derive(Clone, Copy)]
+struct Depth {
     level: Secondary,
-    at: usize,
-    q: Arm<Primary>,
-    m: Mark,
-    s: u32,
-) -> Result<u32, Damaged>
-    requires { ((arm_value q).node / 2 < level.capacity) × Stands level.capacity s at t.old }
-    ensures { after (figure_of result) t.new ≡ main_leaf♯ level.capacity (mark_value m) s level.base at (arm_value q) t.old }
-{
-    let tree = Primary {
-        capacity: level.capacity,
-    };
-    let name = insert::split(t, tree, at, q, m, s);
-    let k = q.node.slot();
-    let other = slots::load(t, k);
-    Primary::store_auxiliary(t, name, Arm::leaf(k, other.y, other.grade));
-    insert::insert(t, level, name, m, s)
 }
 
-// Puts the mark m of slot s into a node on its way: into the arm a that leads to the node, at the word `at`, and into the node's auxiliary tree.
-fn grow(
-    t: &mut [u32],
-    level: Secondary,
-    at: usize,
-    a: Arm<Primary>,
-    name: u32,
-    m: Mark,
-    s: u32,
-) -> Result<u32, Damaged>
-    requires { (name < level.capacity) × Stands level.capacity s at t.old }
-    ensures { after (figure_of result) t.new ≡ grow♯ level.capacity (mark_value m) s level.base name at (arm_value a) t.old }
-{
-    Arm::store(t, at, a.grown(m.x, m.grade));
-    insert::insert(t, level, name, m, s)
-}
+impl Insertion<Primary> for Depth {
+    ghost tree = { λ depth. record { capacity = depth.level.capacity } };
 
-// Puts the mark into the main tree whose arm stands at the word `at`, and builds that tree afresh with all its auxiliary trees; gives its weight.
-fn insert_afresh(
-    t: &mut [u32],
-    level: Secondary,
-    at: usize,
-    m: Mark,
-    s: u32,
-) -> Result<u32, Damaged>
-    requires { Stands level.capacity s at t.old }
-    ensures { after (figure_of result) t.new ≡ main_afresh♯ level.capacity (mark_value m) s level.base at t.old }
-{
-    let tree = Primary {
-        capacity: level.capacity,
-    };
-    main_tree::put(t, tree, at, m, s)?;
-    let a = Arm::load(t, at);
-    let fresh = primary_build::build::rebuild(t, level, a.node, a.weight, None, a.weight)?;
-    Arm::store(t, at, fresh.arm);
-    Ok(a.weight)
-}
+    ghost steps = { λ depth. main_steps depth.level.capacity depth.level.base };
 
-// Inserts the mark m of slot s beneath the arm at the word `start`, whose level is `top`; gives the weight of the main node built afresh, or 0.
-fn insert_beneath(
-    t: &mut [u32],
-    top: Secondary,
-    start: usize,
-    m: Mark,
-    s: u32,
-) -> Result<u32, Damaged>
-    requires { Stands top.capacity s start t.old }
-    ensures { after (figure_of result) t.new ≡ insert_beneath♯ deepest top.capacity (mark_value m) s top.base start t.old }
-{
-    let tree = Primary {
-        capacity: top.capacity,
-    };
-    let mut base = top.base;
-    let mut at = start;
-    for turn in 0..limits::DEEPEST {
-        let level = Secondary { base, ..top };
-        let a = Arm::load(t, at);
-        let name = a.node.slot();
-        if tree.capacity <= name {
-            return Err(Damaged);
+    ghost rest = { λ depth m s turns. insert_beneath♯ turns depth.level.capacity m s depth.level.base };
+
+    ghost most = { λ depth. 2 ^ 32 };
+
+    const MENDS: bool = true;
+
+    ghost MENDS = { true };
+
+    fn tree(self) -> Primary {
+        Primary {
+            capacity: self.level.capacity,
         }
-        if a.node.is_leaf() {
-            return insert_at_leaf(t, level, at, a, m, s);
-        }
-        let fork = Record::fork(t, tree, name, m);
-        if weights::disagree(fork.child, fork.sibling, a.weight) {
-            return Err(Damaged);
-        }
-        if weights::unbalances(true, fork.child, fork.sibling) {
-            return insert_afresh(t, level, at, m, s);
-        }
-        grow(t, level, at, a, name, m, s)?;
-        base = levels::deeper(base, top.capacity);
-        at = Record::child(tree, name, fork.left);
     }
-    Err(Damaged)
+
+    fn deeper(self) -> Depth {
+        let capacity = self.level.capacity;
+        let base = levels::deeper(self.level.base, capacity);
+        Depth {
+            level: Secondary { base, capacity },
+        }
+    }
+
+    fn grow(self, t: &mut [u32], name: u32, m: Mark, s: u32) -> Result<u32, Damaged> {
+        insert::insert(t, self.level, name, m, s)
+    }
+
+    // Two marks are balanced: nothing is built afresh.
+    fn begin(self, t: &mut [u32], made: u32, k: u32, m: Mark, s: u32) -> Result<u32, Damaged> {
+        let other = slots::load(t, k);
+        Primary::store_auxiliary(t, made, Arm::leaf(k, other.y, other.grade));
+        insert::insert(t, self.level, made, m, s)
+    }
+
+    // From here on the mark goes into the main tree alone, which is then built afresh with all its auxiliary trees.
+    fn afresh(self, t: &mut [u32], at: usize, m: Mark, s: u32, turn: u32) -> Result<u32, Damaged> {
+        insert::put(t, self.tree(), at, m, s, 0)?;
+        let a = Arm::load(t, at);
+        let fresh = primary_build::build::rebuild(t, self.level, a.node, a.weight, None, a.weight)?;
+        Arm::store(t, at, fresh.arm);
+        Ok(a.weight)
+    }
+
+    ghost used_up = { λ depth m s. insert_beneath♯-zero 0 refl depth.level.capacity m s depth.level.base };
+
+    ghost turns = { λ depth. main-turns depth.level.capacity depth.level.base };
 }
 
 // Inserts the mark m, which stands in slot s; gives the weight of the main node built afresh, or 0. The first mark is a lone leaf.
@@ -131,9 +85,7 @@ pub fn insert(t: &mut [u32], capacity: u32, m: Mark, s: u32) -> Result<u32, Dama
         Arm::store(t, layout::ROOT, leaf);
         return Ok(0);
     }
-    let top = Secondary {
-        base: levels::top(capacity),
-        capacity,
-    };
-    insert_beneath(t, top, layout::ROOT, m, s)
+    let base = levels::top(capacity);
+    let level = Secondary { base, capacity };
+    descend(t, Depth { level }, layout::ROOT, m, s, 0)
 }

@@ -3,4 +3,3 @@
 #![tactic(auto)]
 
 pub mod insert;
-pub mod main_tree;

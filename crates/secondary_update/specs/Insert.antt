@@ -1,7 +1,6 @@
 -- The mirror of the insertion, along any axis. Assumes nothing.
-use Rattle.std.specs.Prelude.{ℕ, zero, suc, ◌+◌, ◌-◌, ◌/◌, ◌%◌, ◌≤◌, ◌<◌, ◌^◌, ◌≡◌}
-use Rattle.std.specs.Prelude.{refl, Bool, true, false, not, Option, Some, None, List, leb, ltb, eqb, length, if◌then◌else◌}
-use Rattle.std.proofs.Common.{arith}
+use Rattle.std.specs.Prelude.{ℕ, zero, suc, ◌+◌, ◌/◌, ◌%◌, ◌≤◌, ◌<◌, ◌^◌, ◌≡◌}
+use Rattle.std.specs.Prelude.{Bool, true, false, not, List, leb, ltb, eqb, length, if◌then◌else◌}
 use Rattle.model.specs.Axis.{Axis}
 use Rattle.model.specs.Sheet.{Mark, Box, along_y}
 use Rattle.table.specs.Layout.{arm_width, runs_end, level_end, auxiliary_place, record_place}
@@ -35,11 +34,6 @@ rebuilt_at A capacity place at a xs = put_fresh at a.weight (rebuild♯ A place 
 
 unfoldable pub afresh♯ : Axis Mark Box → ℕ → (ℕ → ℕ) → ℕ → ℕ → List ℕ → After ℕ
 afresh♯ A capacity place at done xs = if eqb done damaged then after damaged xs else rebuilt_at A capacity place at (arm_at xs at) xs
-
--- what is left to do once the mark is in: the tree at `top` is built afresh, where there is one that waits for the mark
-abbrev pub ended : ℕ → ℕ → Option ℕ → After ℕ → After ℕ
-ended base capacity None p = p
-ended base capacity (Some top) p = afresh♯ along_y capacity (record_place base) top p.out p.words
 
 -- whether to mend, where the arm stands, and the words
 abbrev pub Insertion : Type 0
@@ -78,13 +72,6 @@ pub insert♯-zero : (f : ℕ) → f ≡ 0
     → insert♯ A f capacity place m s mends at xs ≡ after damaged xs
 unfolding insert♯
 insert♯-zero f e A capacity place m s mends at xs = rw e
-
-pub insert♯-suc : (f : ℕ) → (f ≡ 0 → ⊥)
-    → (A : Axis Mark Box) (capacity : ℕ) (place : ℕ → ℕ) (m : Mark) (s : ℕ) (mends : Bool) (at : ℕ) (xs : List ℕ)
-    → insert♯ A f capacity place m s mends at xs ≡ insert_node A (insert♯ A (f - 1) capacity place m s) capacity place m s mends at xs
-unfolding insert♯
-insert♯-suc zero h A capacity place m s mends at xs = absurd (h refl)
-insert♯-suc (suc f) h A capacity place m s mends at xs = let e : suc f - 1 ≡ f = omega arith in rw e
 
 -- the arm at the word `at`, the slots and the runs of a table of that capacity, and the records of a tree, up to their end, are there
 abbrev pub There : ℕ → ℕ → ℕ → List ℕ → Type 0

@@ -3,4 +3,5 @@
 pub mod Updates
 pub mod Values
 pub mod Insert
+pub mod Descent
 pub mod Strike

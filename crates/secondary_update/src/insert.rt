@@ -1,21 +1,22 @@
-// Insertion: down from the root, each arm on the way written once, before its node's children are looked at.
-ghost use Rattle.std.specs.Prelude.{◌≡◌, true, ◌+◌, ◌/◌, ◌<◌, ◌≤◌, length, IfSome, IfOk};
+// Insertion into a tree by itself: into an auxiliary tree, which is mended, and into a tree of either kind, which is not.
+ghost use Rattle.std.specs.Prelude.{◌≡◌, refl, true, false, ◌-◌, ◌/◌, ◌<◌, ◌≤◌, length, IfOk};
 ghost use Rattle.model.specs.Sheet.{along_y};
 ghost use Rattle.geometry.specs.Values.{mark_value};
 ghost use Rattle.table.specs.After.{after};
-ghost use Rattle.table.specs.Damage.{figure_of};
-ghost use Rattle.table.specs.Layout.{arm_width, record_place, runs_end, level_end};
+ghost use Rattle.table.specs.Damage.{figure_of, done_of};
+ghost use Rattle.table.specs.Layout.{record_place, runs_end};
 ghost use Rattle.table.specs.Limits.{deepest};
 ghost use Rattle.nodes.specs.Values.{arm_value};
-ghost use Rattle.secondary_update.specs.Insert.{split♯, split_name, afresh♯, ended, There, insert♯, auxiliary_insert♯};
+ghost use Rattle.secondary_update.specs.Insert.{split♯, split_name, There, insert♯, auxiliary_insert♯, insert♯-zero};
+ghost use Rattle.secondary_update.specs.Descent.{mending_steps, alone_steps, mending-turns, alone-turns};
 
+use crate::descent::{Insertion, descend};
 use geometry::{Axis, Mark};
 use nodes::arm::Arm;
 use nodes::primary::Primary;
 use nodes::record::Record;
 use nodes::secondary::Secondary;
 use nodes::tree::Tree;
-use nodes::weights;
 use table::damage::Damaged;
 use table::{limits, slots};
 
@@ -40,79 +41,116 @@ pub fn split<T: Tree>(t: &mut [u32], tree: T, at: usize, q: Arm<T>, m: Mark, s: 
     s
 }
 
-// Builds afresh the tree whose arm stands at the word `at`; gives its weight.
-fn afresh(t: &mut [u32], tree: Secondary, at: usize) -> Result<u32, Damaged>
-    requires { (at + arm_width ≤ length t.old) × (runs_end tree.capacity ≤ length t.old) × (level_end tree.base tree.capacity ≤ length t.old) }
-    ensures is { after (figure_of result) t.new ≡ afresh♯ along_y tree.capacity (record_place tree.base) at 0 t.old }
-    ensures within { IfOk result (λ n. n ≤ tree.capacity) }
-{
-    let a = Arm::load(t, at);
-    let fresh = secondary_build::build::rebuild(t, tree, a.node, a.weight, None, a.weight)?;
-    Arm::store(t, at, fresh);
-    Ok(a.weight)
+// A tree by itself, whose nodes carry nothing, and of which nothing is mended.
+#[derive(Clone, Copy)]
+struct Alone<T> {
+    tree: T,
 }
 
-// Makes a node of a leaf and the mark m of slot s, and builds the tree at `top` afresh where there is one that waits for the mark; gives its weight, or 0.
-#[inline]
-fn insert_at_leaf(
+impl<T: Tree> Insertion<T> for Alone<T> {
+    ghost tree = { λ alone. alone.tree };
+
+    ghost steps = { λ alone. alone_steps T.Along.along (T.capacity alone.tree) (T.place alone.tree) };
+
+    ghost rest = { λ alone m s turns. insert♯ T.Along.along turns (T.capacity alone.tree) (T.place alone.tree) m s false };
+
+    ghost most = { λ alone. 0 };
+
+    const MENDS: bool = false;
+
+    ghost MENDS = { false };
+
+    fn tree(self) -> T {
+        self.tree
+    }
+
+    fn deeper(self) -> Alone<T> {
+        self
+    }
+
+    fn grow(self, t: &mut [u32], name: u32, m: Mark, s: u32) -> Result<u32, Damaged> {
+        Ok(0)
+    }
+
+    fn begin(self, t: &mut [u32], made: u32, k: u32, m: Mark, s: u32) -> Result<u32, Damaged> {
+        Ok(0)
+    }
+
+    // Never asked.
+    fn afresh(self, t: &mut [u32], at: usize, m: Mark, s: u32, turn: u32) -> Result<u32, Damaged> {
+        Err(Damaged)
+    }
+
+    ghost used_up = { λ alone m s. insert♯-zero 0 refl T.Along.along (T.capacity alone.tree) (T.place alone.tree) m s false };
+
+    ghost turns = { λ alone. alone-turns T.Along.along (T.capacity alone.tree) (T.place alone.tree) };
+}
+
+// Inserts the mark m of slot s beneath the arm at the word `at` of a tree of either kind alone, from a turn of the way on. Nothing is mended.
+pub fn put<T: Tree>(
     t: &mut [u32],
-    tree: Secondary,
+    tree: T,
     at: usize,
-    q: Arm<Secondary>,
     m: Mark,
     s: u32,
-    top: Option<usize>,
-) -> Result<u32, Damaged>
-    requires { ((arm_value q).node / 2 < tree.capacity) × (s < tree.capacity) × IfSome top (λ w. w + arm_width ≤ length t.old)
-        × There (level_end tree.base tree.capacity) tree.capacity at t.old }
-    ensures is { after (figure_of result) t.new
-        ≡ ended tree.base tree.capacity top (after 0 (split♯ along_y (record_place tree.base) (mark_value m) s at (arm_value q) t.old)) }
-    ensures within { IfOk result (λ n. n ≤ tree.capacity) }
+    turn: u32,
+) -> Result<(), Damaged>
+    requires { (s < T.capacity tree) × There (T.end tree) (T.capacity tree) at t.old }
+    ensures { after (done_of result) t.new
+        ≡ insert♯ T.Along.along (deepest - turn) (T.capacity tree) (T.place tree) (mark_value m) s false at t.old }
 {
-    split(t, tree, at, q, m, s);
-    match top {
-        Some(place) => afresh(t, tree, place),
-        None => Ok(0),
-    }
+    descend(t, Alone { tree }, at, m, s, turn)?;
+    Ok(())
 }
 
-// Inserts the mark m of slot s beneath the arm at the word `start`, where that arm and every record and mark of a slot below the capacity are there. The
-// unbalanced node nearest the root is built afresh once the mark is in: from there on nothing is mended. A node of no slot is damage.
-fn insert_beneath(
-    t: &mut [u32],
+// An auxiliary tree. Its unbalanced node nearest the root is built afresh once the mark is in: from there on nothing is mended.
+#[derive(Clone, Copy)]
+struct Mending {
     tree: Secondary,
-    start: usize,
-    m: Mark,
-    s: u32,
-) -> Result<u32, Damaged>
-    requires { (s < tree.capacity) × There (level_end tree.base tree.capacity) tree.capacity start t.old }
-    ensures is { after (figure_of result) t.new ≡ insert♯ along_y deepest tree.capacity (record_place tree.base) (mark_value m) s true start t.old }
-    ensures within { IfOk result (λ n. n ≤ tree.capacity) }
-{
-    let mut at = start;
-    let mut top = None;
-    for turn in 0..limits::DEEPEST {
-        let a = Arm::load(t, at);
-        let name = a.node.slot();
-        if tree.capacity <= name {
-            return Err(Damaged);
-        }
-        if a.node.is_leaf() {
-            return insert_at_leaf(t, tree, at, a, m, s, top);
-        }
-        let fork = Record::fork(t, tree, name, m);
-        if weights::disagree(fork.child, fork.sibling, a.weight) {
-            return Err(Damaged);
-        }
-        let mends = top.is_none();
-        if weights::unbalances(mends, fork.child, fork.sibling) {
-            top = Some(at);
-            continue;
-        }
-        Arm::store(t, at, a.grown(m.y, m.grade));
-        at = Record::child(tree, name, fork.left);
+}
+
+impl Insertion<Secondary> for Mending {
+    ghost tree = { λ mending. mending.tree };
+
+    ghost steps = { λ mending. mending_steps along_y mending.tree.capacity (record_place mending.tree.base) };
+
+    ghost rest = { λ mending m s turns. insert♯ along_y turns mending.tree.capacity (record_place mending.tree.base) m s true };
+
+    ghost most = { λ mending. mending.tree.capacity };
+
+    const MENDS: bool = true;
+
+    ghost MENDS = { true };
+
+    fn tree(self) -> Secondary {
+        self.tree
     }
-    Err(Damaged)
+
+    fn deeper(self) -> Mending {
+        self
+    }
+
+    fn grow(self, t: &mut [u32], name: u32, m: Mark, s: u32) -> Result<u32, Damaged> {
+        Ok(0)
+    }
+
+    fn begin(self, t: &mut [u32], made: u32, k: u32, m: Mark, s: u32) -> Result<u32, Damaged> {
+        Ok(0)
+    }
+
+    fn afresh(self, t: &mut [u32], at: usize, m: Mark, s: u32, turn: u32) -> Result<u32, Damaged> {
+        put(t, self.tree, at, m, s, turn)?;
+        let a = Arm::load(t, at);
+        let fresh = secondary_build::build::rebuild(
+            t, self.tree, a.node, a.weight, None, a.weight,
+        )?;
+        Arm::store(t, at, fresh);
+        Ok(a.weight)
+    }
+
+    ghost used_up = { λ mending m s. insert♯-zero 0 refl along_y mending.tree.capacity (record_place mending.tree.base) m s true };
+
+    ghost turns = { λ mending. mending-turns along_y mending.tree.capacity (record_place mending.tree.base) };
 }
 
 // Inserts the mark m, which stands in slot s, into the auxiliary tree of the main node named `owner`; gives the
@@ -125,5 +163,6 @@ pub fn insert(t: &mut [u32], tree: Secondary, owner: u32, m: Mark, s: u32) -> Re
     if tree.lacks_level(t) {
         return Err(Damaged);
     }
-    insert_beneath(t, tree, Primary::auxiliary_place(owner), m, s)
+    let at = Primary::auxiliary_place(owner);
+    descend(t, Mending { tree }, at, m, s, 0)
 }

@@ -2,6 +2,7 @@
 // its level begins. An insertion writes arms on its way down, a strike records on its way back.
 #![tactic(auto)]
 
+pub mod descent;
 pub mod insert;
 pub mod strike;
 pub mod walk;

@@ -11,6 +11,6 @@ returns-clause-is c =
     rw (
       ← c.lacks_level.ensures.is,
       c.if-lacks_level.false,
-      ← c.auxiliary_place.ensures.is,
-      ← c.insert_beneath.ensures.is,
+      ← c.auxiliary_place-at.ensures.is,
+      ← c.descend.ensures.is,
     )
