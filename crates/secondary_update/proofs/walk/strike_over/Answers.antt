@@ -1,5 +1,4 @@
 use Rattle.std.proofs.Common.{rules}
-use Rattle.std.proofs.lemmas.Result.{err_from_is_err_and}
 use Rattle.secondary_update.specs.Strike.{strike_over}
 use Rattle.secondary_update.proofs.Outcomes.{outcome-unwrap_or}
 use Rattle.secondary_update.proofs.walk.strike_over.Goals as goal
