@@ -27,7 +27,7 @@ use Rattle.nodes.proofs.Levels.{held-shallow}
 use Rattle.secondary_update.specs.Insert.{insert♯, auxiliary_insert♯}
 use Rattle.secondary_update.specs.Strike.{strike_from, auxiliary_strike♯}
 use Rattle.secondary_update.proofs.Inserting.{axis-coordinate, Ready, grows-sound, insert-holds}
-use Rattle.secondary_update.proofs.Striking.{strike-leads, struck-sound, strike-holds}
+use Rattle.secondary_update.proofs.Striking.{strike-leads, strike-holds}
 
 -- the model's auxiliary register over slots, and over the bare lists that its nodes carry
 module _ (f : ℕ → Mark) where
@@ -92,6 +92,5 @@ module _ (f : ℕ → Mark) (base C : ℕ) (xs : List ℕ) where
         let d = held-shallow h b g.small in
         let w = strike-leads along_y f s sheet-sameness along_y-laws (node i l r) o n in
         let e = strike-holds along_y f (carried f) (record_place base) C s xs g deepest i l r w h b (omega arith) (omega arith) in
-        let sound = struck-sound along_y f (carried f) (record_place base) C s xs _ _ _ e in
-        rw (le-ltb (length xs) (level_end base C) (level-there base C (length xs) g (omega arith)), a, sound)
+        rw (le-ltb (length xs) (level_end base C) (level-there base C (length xs) g (omega arith)), a)
         (record { tree = _; is = refl; leaves = e.leaves; figure = e.figure })

@@ -36,7 +36,7 @@ use Rattle.nodes.proofs.Without.{without, without-append, without-none}
 use Rattle.secondary_build.proofs.Building.{rebuild-holds}
 use Rattle.secondary_update.specs.Updates.{Strike, strike_of}
 use Rattle.secondary_update.specs.Strike.{Striking, node_over, strike_over, fresh_strike, strike_afresh}
-use Rattle.secondary_update.specs.Strike.{strike_child, strike_beneath♯, auxiliary, strike♯, sound_strike}
+use Rattle.secondary_update.specs.Strike.{strike_child, strike_beneath♯, auxiliary, strike♯}
 use Rattle.secondary_update.proofs.Node.{over-left, over-right}
 
 -- a slot that would be below itself, were it s, is not s
@@ -178,13 +178,6 @@ module _ {I : Type 0} (A : Axis Mark Box) (f : ℕ → Mark) (R : Register ℕ B
     pub leaves : Leaves A f place C xs p.out.arm p.words (rebalance (slot_axis f A) R t')
     pub figure : p.out.rebuilt ≡ rebuilt t'
     pub first : least t ≡ s → p.out.first ≡ least t'
-
-  -- so a tree is left
-  pub struck-sound : (xs : List ℕ) (t t' : Tree ℕ I) (p : After Strike) → LeavesStruck xs t t' p → sound_strike p ≡ p
-  unfolding sound_strike
-  struck-sound xs t t' p q =
-      let w = ap (λ a. a.weight) q.leaves.is ∙ rebalance-weight X R t' in
-      rw (ne_eqb p.out.arm.weight 0 (omega (arith, w, weight-pos t')))
 
   -- the name of a node whose right child is struck: a new one, where the slot was its name
   pub renamed-least : (r r' : Tree ℕ I) (first : ℕ) → Strikes A f s R r r' → least r' < C → (least r ≡ s → first ≡ least r')

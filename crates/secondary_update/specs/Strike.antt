@@ -107,12 +107,8 @@ strike♯ A f capacity place m s w n xs = strike_beneath♯ A (auxiliary A) capa
 unfoldable pub strike_from : ℕ → ℕ → Mark → ℕ → Arm → List ℕ → After Strike
 strike_from base capacity m s a xs = strike♯ along_y deepest capacity (record_place base) m s a.weight a.node xs
 
--- no tree left is damage
-unfoldable pub sound_strike : After Strike → After Strike
-sound_strike p = if eqb p.out.arm.weight 0 then after no_strike p.words else p
-
 -- from that of the main node named `owner`
 unfoldable pub auxiliary_strike♯ : ℕ → ℕ → Mark → ℕ → ℕ → List ℕ → After Strike
 auxiliary_strike♯ base capacity m s owner xs =
     if ltb (length xs) (level_end base capacity) then after no_strike xs
-    else sound_strike (strike_from base capacity m s (arm_at xs (auxiliary_place owner)) xs)
+    else strike_from base capacity m s (arm_at xs (auxiliary_place owner)) xs

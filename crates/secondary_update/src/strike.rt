@@ -7,7 +7,7 @@ ghost use Rattle.table.specs.Layout.{record_place, runs_end, level_end};
 ghost use Rattle.nodes.specs.Values.{arm_value};
 ghost use Rattle.secondary_update.specs.Strike.{Lent, node_over, strike_afresh, auxiliary, auxiliary_strike♯};
 ghost use Rattle.secondary_update.specs.Updates.{strike_of};
-ghost use Rattle.secondary_update.specs.Values.{struck_value, strike_outcome};
+ghost use Rattle.secondary_update.specs.Values.{struck_value, strike_outcome, StrikeLeaves};
 
 use crate::walk;
 use crate::walk::{Striking, Struck, Target};
@@ -116,8 +116,7 @@ pub fn strike(
     s: u32,
 ) -> Result<Struck<Secondary>, Damaged>
     requires { (owner < tree.capacity) × (runs_end tree.capacity ≤ length t.old) }
-    ensures is { after (strike_outcome result) t.new ≡ auxiliary_strike♯ tree.base tree.capacity (mark_value m) s owner t.old }
-    ensures tree { IfOk result (λ u. 0 < u.arm.weight) }
+    ensures { StrikeLeaves result t.new (auxiliary_strike♯ tree.base tree.capacity (mark_value m) s owner t.old) }
 {
     if tree.lacks_level(t) {
         return Err(Damaged);
