@@ -1,6 +1,7 @@
 -- The mirror of the insertion into the two-fold tree. Assumes nothing.
-use Rattle.std.specs.Prelude.{ℕ, zero, suc, ◌+◌, ◌/◌, ◌%◌, ◌≤◌, ◌<◌, ◌^◌}
+use Rattle.std.specs.Prelude.{ℕ, zero, suc, ◌+◌, ◌-◌, ◌/◌, ◌%◌, ◌≤◌, ◌<◌, ◌^◌}
 use Rattle.std.specs.Prelude.{◌≡◌, refl, true, false, not, List, leb, eqb, length, if◌then◌else◌}
+use Rattle.std.proofs.Common.{arith}
 use Rattle.model.specs.Sheet.{Mark, along_x}
 use Rattle.table.specs.Layout.{arm_width, runs_end, main_place, auxiliary_place, root_place}
 use Rattle.table.specs.Limits.{deepest, damaged, no_slot}
@@ -80,6 +81,12 @@ pub insert_beneath♯-zero : (f : ℕ) → f ≡ 0 → (capacity : ℕ) (m : Mar
     → insert_beneath♯ f capacity m s base at xs ≡ after damaged xs
 unfolding insert_beneath♯
 insert_beneath♯-zero f e capacity m s base at xs = rw e
+
+pub insert_beneath♯-suc : (f : ℕ) → (f ≡ 0 → ⊥) → (capacity : ℕ) (m : Mark) (s base at : ℕ) (xs : List ℕ)
+    → insert_beneath♯ f capacity m s base at xs ≡ main_insert_node (insert_beneath♯ (f - 1) capacity m s) capacity m s base at xs
+unfolding insert_beneath♯
+insert_beneath♯-suc zero h capacity m s base at xs = absurd (h refl)
+insert_beneath♯-suc (suc f) h capacity m s base at xs = let e : suc f - 1 ≡ f = omega arith in rw e
 
 -- what is done beside the arms and the records of the main tree
 abbrev pub main_steps : ℕ → ℕ → Mark → ℕ → ℕ → Steps

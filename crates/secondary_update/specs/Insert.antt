@@ -1,6 +1,7 @@
 -- The mirror of the insertion, along any axis. Assumes nothing.
-use Rattle.std.specs.Prelude.{ℕ, zero, suc, ◌+◌, ◌/◌, ◌%◌, ◌≤◌, ◌<◌, ◌^◌, ◌≡◌}
-use Rattle.std.specs.Prelude.{Bool, true, false, not, List, leb, ltb, eqb, length, if◌then◌else◌}
+use Rattle.std.specs.Prelude.{ℕ, zero, suc, ◌+◌, ◌-◌, ◌/◌, ◌%◌, ◌≤◌, ◌<◌, ◌^◌, ◌≡◌}
+use Rattle.std.specs.Prelude.{refl, Bool, true, false, not, List, leb, ltb, eqb, length, if◌then◌else◌}
+use Rattle.std.proofs.Common.{arith}
 use Rattle.model.specs.Axis.{Axis}
 use Rattle.model.specs.Sheet.{Mark, Box, along_y}
 use Rattle.table.specs.Layout.{arm_width, runs_end, level_end, auxiliary_place, record_place}
@@ -72,6 +73,13 @@ pub insert♯-zero : (f : ℕ) → f ≡ 0
     → insert♯ A f capacity place m s mends at xs ≡ after damaged xs
 unfolding insert♯
 insert♯-zero f e A capacity place m s mends at xs = rw e
+
+pub insert♯-suc : (f : ℕ) → (f ≡ 0 → ⊥)
+    → (A : Axis Mark Box) (capacity : ℕ) (place : ℕ → ℕ) (m : Mark) (s : ℕ) (mends : Bool) (at : ℕ) (xs : List ℕ)
+    → insert♯ A f capacity place m s mends at xs ≡ insert_node A (insert♯ A (f - 1) capacity place m s) capacity place m s mends at xs
+unfolding insert♯
+insert♯-suc zero h A capacity place m s mends at xs = absurd (h refl)
+insert♯-suc (suc f) h A capacity place m s mends at xs = let e : suc f - 1 ≡ f = omega arith in rw e
 
 -- the arm at the word `at`, the slots and the runs of a table of that capacity, and the records of a tree, up to their end, are there
 abbrev pub There : ℕ → ℕ → ℕ → List ℕ → Type 0
