@@ -15,10 +15,6 @@ use Rattle.secondary_update.specs.Insert.{split♯, split_name, insert♯, auxil
 use Rattle.nodes.specs.Weights.{unbalances}
 use Rattle.primary_build.specs.Build.{Freshly, main_rebuild♯}
 
--- the arm at the word `at`, and the slots and runs of a table of that capacity are there; s is one of the slots
-abbrev pub Stands : ℕ → ℕ → ℕ → List ℕ → Type 0
-Stands capacity s at xs = (s < capacity) × (at < 2 ^ 40) × (at + arm_width ≤ length xs) × (runs_end capacity ≤ length xs)
-
 -- the auxiliary tree of that node: the leaf's slot k alone, and then the mark's slot too
 abbrev pub pair_auxiliary : ℕ → Mark → ℕ → ℕ → ℕ → ℕ → List ℕ → After ℕ
 pair_auxiliary capacity m s base name k xs =
@@ -93,7 +89,7 @@ abbrev pub main_steps : ℕ → ℕ → Mark → ℕ → ℕ → Steps
 main_steps capacity base m s turns = record {
   grow = λ name xs. auxiliary_insert♯ base capacity m s name xs;
   begin = λ made k xs. pair_auxiliary capacity m s base made k xs;
-  afresh = λ at xs. main_afresh♯ capacity m s base at xs;
+  mend = λ at xs. main_afresh♯ capacity m s base at xs;
   onward = λ at xs. insert_beneath♯ turns capacity m s (deeper base capacity) at xs;
 }
 

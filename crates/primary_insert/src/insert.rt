@@ -61,7 +61,7 @@ impl Insertion<Primary> for Depth {
     }
 
     // From here on the mark goes into the main tree alone, which is then built afresh with all its auxiliary trees.
-    fn afresh(self, t: &mut [u32], at: usize, m: Mark, s: u32, turn: u32) -> Result<u32, Damaged> {
+    fn mend(self, t: &mut [u32], at: usize, m: Mark, s: u32, turn: u32) -> Result<u32, Damaged> {
         insert::put(t, self.tree(), at, m, s, 0)?;
         let a = Arm::load(t, at);
         let fresh = primary_build::build::rebuild(t, self.level, a.node, a.weight, None, a.weight)?;

@@ -10,11 +10,11 @@ use Rattle.nodes.specs.Weights.{unbalances}
 use Rattle.secondary_update.specs.Insert.{split♯, split_name, insert_afresh, insert_child, insert_way, insert_arm, insert_node, insert♯}
 
 -- What is done beside the arms and the records: with what the node of a name carries, on the way; with what a node of a name carries that was made of the leaf
--- of a slot; at the arm of a node that would not be balanced; and, from the arm of a child on, beneath.
+-- of a slot; at the arm of a node that is mended; and, from the arm of a child on, beneath.
 pub record Steps : Type 0 where
   pub grow : ℕ → List ℕ → After ℕ
   pub begin : ℕ → ℕ → List ℕ → After ℕ
-  pub afresh : ℕ → List ℕ → After ℕ
+  pub mend : ℕ → List ℕ → After ℕ
   pub onward : ℕ → List ℕ → After ℕ
 
 module _ (A : Axis Mark Box) (capacity : ℕ) (place : ℕ → ℕ) (mends : Bool) (m : Mark) (s : ℕ) (S : Steps) where
@@ -25,7 +25,7 @@ module _ (A : Axis Mark Box) (capacity : ℕ) (place : ℕ → ℕ) (mends : Boo
   abbrev pub fork♯ : ℕ → Way → ℕ → Arm → List ℕ → After ℕ
   fork♯ name v at a xs =
       if not (eqb (v.child.weight + v.sibling.weight) a.weight) then after damaged xs
-      else (if unbalances mends v.child.weight v.sibling.weight then S.afresh at xs
+      else (if unbalances mends v.child.weight v.sibling.weight then S.mend at xs
       else onward♯ (child_at (place name) v.left) (S.grow name (put_arm xs at (grown_arm a (A.at m) m.grade))))
 
   abbrev pub arm♯ : ℕ → Arm → List ℕ → After ℕ
@@ -43,7 +43,7 @@ module _ (A : Axis Mark Box) (capacity : ℕ) (place : ℕ → ℕ) (m : Mark) (
   mending_steps = record {
     grow = λ name xs. after 0 xs;
     begin = λ made k xs. after 0 xs;
-    afresh = insert_afresh A (insert♯ A turns capacity place m s) capacity place;
+    mend = insert_afresh A (insert♯ A turns capacity place m s) capacity place;
     onward = insert♯ A turns capacity place m s true;
   }
 
@@ -51,7 +51,7 @@ module _ (A : Axis Mark Box) (capacity : ℕ) (place : ℕ → ℕ) (m : Mark) (
   alone_steps = record {
     grow = λ name xs. after 0 xs;
     begin = λ made k xs. after 0 xs;
-    afresh = λ at xs. after damaged xs;
+    mend = λ at xs. after damaged xs;
     onward = insert♯ A turns capacity place m s false;
   }
 

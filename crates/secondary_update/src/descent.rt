@@ -56,9 +56,9 @@ pub trait Insertion<T: Tree>: Copy {
         ensures within { IfOk result (λ n. n ≤ most self) };
 
     // Puts the mark m of slot s beneath the arm at the word `at`, and builds that tree afresh; `turn` is the next turn.
-    fn afresh(self, t: &mut [u32], at: usize, m: Mark, s: u32, turn: u32) -> Result<u32, Damaged>
+    fn mend(self, t: &mut [u32], at: usize, m: Mark, s: u32, turn: u32) -> Result<u32, Damaged>
         requires { (s < T.capacity (tree self)) × There (T.end (tree self)) (T.capacity (tree self)) at t.old }
-        ensures is { after (figure_of result) t.new ≡ (steps self (mark_value m) s (deepest - turn)).afresh at t.old }
+        ensures is { after (figure_of result) t.new ≡ (steps self (mark_value m) s (deepest - turn)).mend at t.old }
         ensures within { IfOk result (λ n. n ≤ most self) };
 
     ghost used_up: { (i : Self) (m : MarkValue) (s at : ℕ) (xs : List ℕ) → rest i m s 0 at xs ≡ after damaged xs };
@@ -99,7 +99,7 @@ pub fn descend<T: Tree, I: Insertion<T>>(
             return Err(Damaged);
         }
         if weights::unbalances(I::MENDS, fork.child, fork.sibling) {
-            return here.afresh(t, at, m, s, turn + 1);
+            return here.mend(t, at, m, s, turn + 1);
         }
         Arm::store(t, at, a.grown(T::Along::at(m), m.grade));
         here.grow(t, name, m, s)?;

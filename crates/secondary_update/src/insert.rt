@@ -77,7 +77,7 @@ impl<T: Tree> Insertion<T> for Alone<T> {
     }
 
     // Never asked.
-    fn afresh(self, t: &mut [u32], at: usize, m: Mark, s: u32, turn: u32) -> Result<u32, Damaged> {
+    fn mend(self, t: &mut [u32], at: usize, m: Mark, s: u32, turn: u32) -> Result<u32, Damaged> {
         Err(Damaged)
     }
 
@@ -138,7 +138,7 @@ impl Insertion<Secondary> for Mending {
         Ok(0)
     }
 
-    fn afresh(self, t: &mut [u32], at: usize, m: Mark, s: u32, turn: u32) -> Result<u32, Damaged> {
+    fn mend(self, t: &mut [u32], at: usize, m: Mark, s: u32, turn: u32) -> Result<u32, Damaged> {
         put(t, self.tree, at, m, s, turn)?;
         let a = Arm::load(t, at);
         let fresh = secondary_build::build::rebuild(

@@ -1,7 +1,7 @@
 use Rattle.std.proofs.Common.{rules}
 use Rattle.std.proofs.lemmas.Result.{err_from_is_err_and}
 use Rattle.secondary_update.specs.Insert.{afresh♯, insert_afresh, put_fresh, rebuilt_at}
-use Rattle.secondary_update.proofs.insert.MendingInsertionSecondary.afresh.Goals as goal
+use Rattle.secondary_update.proofs.insert.MendingInsertionSecondary.mend.Goals as goal
 
 pub returns-in_err-put-clause-is : goal.returns-in_err-put-clause-is
 unfolding insert_afresh afresh♯
