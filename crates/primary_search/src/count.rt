@@ -54,64 +54,66 @@ fn hand_over(t: &[u32], level: Secondary, y1: u32, y2: u32, s: u32, tally: Figur
     secondary_search::count::count(records, side, root, tally.visit())
 }
 
-// The arrival at a node of that number whose cell is inside the box's side; the auxiliary trees of its depth have that level.
-fn handed(t: &[u32], level: Secondary, b: Box, node: Node<Primary>, tally: Figures) -> Figures
-    requires { slots_end level.capacity ≤ length t.now }
-    ensures { result.0 ≡ handed♯ t.now level.capacity (box_value b) level.base node.0 tally.0 }
-{
-    let s = node.slot();
-    if level.capacity <= s {
-        return Figures::lost();
-    }
-    if node.is_leaf() {
-        return leaf(t, b, s, tally);
-    }
-    hand_over(t, level, b.y1, b.y2, s, tally)
-}
-
-// The main tree at the nodes of one depth, by the level of their auxiliary trees.
+// The main tree at the nodes of one depth, by the level of their auxiliary trees, in words that have its slots.
 #[derive(Clone, Copy)]
-struct Depth {
+struct Depth<'a> {
+    t: &'a [u32],
     level: Secondary,
+    ghost slots_there: { slots_end level.capacity ≤ length t.now },
 }
 
-impl Search for Depth {
+impl<'a> Depth<'a> {
+    // The arrival at a node of that number whose cell is inside the box's side.
+    fn handed(self, b: Box, node: Node<Primary>, tally: Figures) -> Figures
+        ensures { result.0 ≡ handed♯ self.entry.t.now self.entry.level.capacity (box_value b) self.entry.level.base node.0 tally.0 }
+    {
+        let s = node.slot();
+        if self.level.capacity <= s {
+            return Figures::lost();
+        }
+        if node.is_leaf() {
+            return leaf(self.t, b, s, tally);
+        }
+        hand_over(self.t, self.level, b.y1, b.y2, s, tally)
+    }
+}
+
+impl<'a> Search for Depth<'a> {
     type Of = Primary;
 
     ghost how = { main };
 
-    ghost capacity = { λ depth xs. depth.level.capacity };
+    ghost words = { λ depth. depth.t.now };
+
+    ghost capacity = { λ depth. depth.level.capacity };
 
     ghost base = { λ depth. depth.level.base };
 
-    ghost Holds = { λ depth xs. slots_end depth.level.capacity ≤ length xs };
-
-    fn record(self, t: &[u32], node: Node<Primary>) -> Option<Record<Primary>>
-        requires { slots_end self.level.capacity ≤ length t.now }
-        ensures { MatchOption result (leb self.level.capacity (node.0 / 2) ≡ true) (λ p.
-            (leb self.level.capacity (node.0 / 2) ≡ false) × (record_value p ≡ record_at t.now (main_place (node.0 / 2)))) }
+    fn record(self, node: Node<Primary>) -> Option<Record<Primary>>
+        ensures { MatchOption result (leb self.entry.level.capacity (node.0 / 2) ≡ true) (λ p.
+            (leb self.entry.level.capacity (node.0 / 2) ≡ false) × (record_value p ≡ record_at self.entry.t.now (main_place (node.0 / 2)))) }
     {
         let s = node.slot();
         let capacity = self.level.capacity;
         if capacity <= s {
             return None;
         }
-        Some(Record::load(t, Primary { capacity }, s))
+        Some(Record::load(self.t, Primary { capacity }, s))
     }
 
-    fn deeper(self) -> Depth {
+    fn deeper(self) -> Depth<'a> {
         let capacity = self.level.capacity;
         let base = levels::deeper(self.level.base, capacity);
         Depth {
+            t: self.t,
             level: Secondary { base, capacity },
         }
     }
 
-    fn take(self, t: &[u32], b: Box, a: Arm<Primary>, tally: Figures) -> Figures
-        requires { slots_end self.level.capacity ≤ length t.now }
-        ensures { result.0 ≡ handed♯ t.now self.level.capacity (box_value b) self.level.base a.node.0 tally.0 }
+    fn take(self, b: Box, a: Arm<Primary>, tally: Figures) -> Figures
+        ensures { result.0 ≡ handed♯ self.entry.t.now self.entry.level.capacity (box_value b) self.entry.level.base a.node.0 tally.0 }
     {
-        handed(t, self.level, b, a.node, tally)
+        self.handed(b, a.node, tally)
     }
 }
 
@@ -129,7 +131,7 @@ pub fn search(t: &[u32], level: Secondary, b: Box, root: Arm<Primary>) -> Figure
     if node.is_leaf() {
         return leaf(t, b, s, Figures::none());
     }
-    search::count(t, Depth { level }, b, root, Figures::none())
+    search::count(Depth { t, level }, b, root, Figures::none())
 }
 
 // The figures of the table's marks that the box of these sides holds, with the visits. Where they are more than a sound table's can be (sizes::Size), the words

@@ -16,39 +16,41 @@ use nodes::record::Record;
 use nodes::secondary::Secondary;
 use table::figures::Figures;
 
+// The records of a level.
 #[derive(Clone, Copy)]
-struct Level;
+struct Level<'a> {
+    t: &'a [u32],
+    ghost whole: { Records t.now },
+}
 
-impl Search for Level {
+impl<'a> Search for Level<'a> {
     type Of = Secondary;
 
     ghost how = { auxiliary };
 
-    ghost capacity = { λ level. records };
+    ghost words = { λ level. level.t.now };
+
+    ghost capacity = { λ level. records level.t.now };
 
     ghost base = { λ level. 0 };
 
-    ghost Holds = { λ level. Records };
-
-    fn record(self, t: &[u32], node: Node<Secondary>) -> Option<Record<Secondary>>
-        requires { Records t.now }
-        ensures { MatchOption result (leb (records t.now) (node.0 / 2) ≡ true) (λ p.
-            (leb (records t.now) (node.0 / 2) ≡ false) × (record_value p ≡ record_at t.now (record_place 0 (node.0 / 2)))) }
+    fn record(self, node: Node<Secondary>) -> Option<Record<Secondary>>
+        ensures { MatchOption result (leb (records self.entry.t.now) (node.0 / 2) ≡ true) (λ p.
+            (leb (records self.entry.t.now) (node.0 / 2) ≡ false) × (record_value p ≡ record_at self.entry.t.now (record_place 0 (node.0 / 2)))) }
     {
         let at = node.place();
-        if at < t.len() {
-            return Some(Record::read(t, at));
+        if at < self.t.len() {
+            return Some(Record::read(self.t, at));
         }
         None
     }
 
     // All its records are in one level.
-    fn deeper(self) -> Level {
+    fn deeper(self) -> Level<'a> {
         self
     }
 
-    fn take(self, t: &[u32], b: Box, a: Arm<Secondary>, tally: Figures) -> Figures
-        requires { Records t.now }
+    fn take(self, b: Box, a: Arm<Secondary>, tally: Figures) -> Figures
         ensures { result.0 ≡ arrived tally.0 a.weight a.grades }
     {
         tally.take(a.weight, a.grades)
@@ -60,5 +62,5 @@ pub fn count(t: &[u32], b: Box, root: Arm<Secondary>, from: Figures) -> Figures
     requires { Records t.now }
     ensures { result.0 ≡ count♯ t.now (records t.now) (box_value b) 0 (arm_value root) from.0 }
 {
-    search::count(t, Level, b, root, from)
+    search::count(Level { t }, b, root, from)
 }

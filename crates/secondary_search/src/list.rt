@@ -14,80 +14,77 @@ use nodes::secondary::Secondary;
 use table::tally::Tally;
 use table::{limits, slots};
 
-// Writes the marks of every leaf beneath a node, at most `most` visits in all. The marks found so far tell the place in the list.
-#[tactic(auto, using(crate::proofs::Walks::walks), unfolding(crate::specs::List::walk_node, crate::specs::List::walk_leaf, crate::specs::List::walk_record))]
-fn walk(
-    t: &[u32],
-    tree: Secondary,
-    node: Node<Secondary>,
-    out: &mut [u32],
-    tally: Tally,
-    most: u32,
-    fuel: u32,
-) -> Tally
-    requires { (slots_end tree.capacity ≤ length t.now) × (level_end tree.base tree.capacity ≤ length t.now) }
-    ensures { after result.0 out.new ≡ walk♯ fuel t.now tree.capacity tree.base most node.0 tally.0 out.old }
-{
-    if fuel == 0 {
-        return Tally::lost();
-    }
-    if most <= tally.visits() {
-        return Tally::lost();
-    }
-    let s = node.slot();
-    if tree.capacity <= s {
-        return Tally::lost();
-    }
-    if node.is_leaf() {
-        slots::put_listed(out, tally.found(), slots::load(t, s));
-        return tally.take(1);
-    }
-    let p = Record::load(t, tree, s);
-    let l = p.left;
-    let r = p.right;
-    let here = tally.visit();
-    let half = walk(t, tree, l.node, out, here, most, fuel - 1);
-    walk(t, tree, r.node, out, half, most, fuel - 1)
-}
-
-#[tactic(auto, using(crate::proofs::Walks::lists), unfolding(crate::specs::List::list_node, crate::specs::List::list_record))]
-fn list_beneath(
-    t: &[u32],
+// What is listed: the marks of an auxiliary tree on a box's side, at most `most` visits in all, in words that have the slots and the tree's records. List and
+// tally are handed from node to node; the marks found so far tell the place in the list.
+#[derive(Clone, Copy)]
+struct Listing<'a> {
+    t: &'a [u32],
     tree: Secondary,
     b: Box,
-    a: Arm<Secondary>,
-    out: &mut [u32],
-    tally: Tally,
     most: u32,
-    fuel: u32,
-) -> Tally
-    requires { (slots_end tree.capacity ≤ length t.now) × (level_end tree.base tree.capacity ≤ length t.now) }
-    ensures { after result.0 out.new
-        ≡ list♯ fuel t.now tree.capacity tree.base (box_value b) most (arm_value a) tally.0 out.old }
-{
-    if fuel == 0 {
-        return Tally::lost();
+    ghost slots_there: { slots_end tree.capacity ≤ length t.now },
+    ghost records_there: { level_end tree.base tree.capacity ≤ length t.now },
+}
+
+impl<'a> Listing<'a> {
+    // Writes the marks of every leaf beneath a node.
+    #[tactic(auto, using(crate::proofs::Walks::walks), unfolding(crate::specs::List::walk_node, crate::specs::List::walk_leaf))]
+    fn walk(&self, node: Node<Secondary>, out: &mut [u32], tally: Tally, fuel: u32) -> Tally
+        ensures { after result.0 out.new
+            ≡ walk♯ fuel self.now.t.now self.now.tree.capacity self.now.tree.base self.now.most node.0 tally.0 out.old }
+    {
+        if fuel == 0 {
+            return Tally::lost();
+        }
+        if self.most <= tally.visits() {
+            return Tally::lost();
+        }
+        let s = node.slot();
+        if self.tree.capacity <= s {
+            return Tally::lost();
+        }
+        if node.is_leaf() {
+            slots::put_listed(out, tally.found(), slots::load(self.t, s));
+            return tally.take(1);
+        }
+        let p = Record::load(self.t, self.tree, s);
+        let l = p.left;
+        let r = p.right;
+        let here = tally.visit();
+        let half = self.walk(l.node, out, here, fuel - 1);
+        self.walk(r.node, out, half, fuel - 1)
     }
-    if most <= tally.visits() {
-        return Tally::lost();
+
+    // Writes those beneath an arm that are on the side.
+    #[tactic(auto, using(crate::proofs::Walks::lists), unfolding(crate::specs::List::list_node, crate::specs::List::list_record))]
+    fn beneath(&self, a: Arm<Secondary>, out: &mut [u32], tally: Tally, fuel: u32) -> Tally
+        ensures { after result.0 out.new
+            ≡ list♯ fuel self.now.t.now self.now.tree.capacity self.now.tree.base (box_value self.now.b) self.now.most (arm_value a) tally.0 out.old }
+    {
+        if fuel == 0 {
+            return Tally::lost();
+        }
+        if self.most <= tally.visits() {
+            return Tally::lost();
+        }
+        let node = a.node;
+        if AlongY::inside(self.b, a.least, a.greatest) {
+            return self.walk(node, out, tally, fuel);
+        }
+        let here = tally.visit();
+        if AlongY::clear(self.b, a.least, a.greatest) {
+            return here;
+        }
+        let s = node.slot();
+        if self.tree.capacity <= s {
+            return Tally::lost();
+        }
+        let p = Record::load(self.t, self.tree, s);
+        let l = p.left;
+        let r = p.right;
+        let half = self.beneath(l, out, here, fuel - 1);
+        self.beneath(r, out, half, fuel - 1)
     }
-    let node = a.node;
-    if AlongY::inside(b, a.least, a.greatest) {
-        return walk(t, tree, node, out, tally, most, fuel);
-    }
-    let here = tally.visit();
-    if AlongY::clear(b, a.least, a.greatest) {
-        return here;
-    }
-    let s = node.slot();
-    if tree.capacity <= s {
-        return Tally::lost();
-    }
-    let p = Record::load(t, tree, s);
-    let l = p.left;
-    let r = p.right;
-    let half = list_beneath(t, tree, b, l, out, here, most, fuel - 1);
-    list_beneath(t, tree, b, r, out, half, most, fuel - 1)
 }
 
 // Lists the marks of a tree on the box's side, and adds the visits to a tally, at most `most` in all.
@@ -104,5 +101,5 @@ pub fn list(
     ensures { after result.0 out.new
         ≡ list♯ deepest t.now tree.capacity tree.base (box_value b) most (arm_value root) tally.0 out.old }
 {
-    list_beneath(t, tree, b, root, out, tally, most, limits::DEEPEST)
+    Listing { t, tree, b, most }.beneath(root, out, tally, limits::DEEPEST)
 }

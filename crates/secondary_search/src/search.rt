@@ -15,51 +15,48 @@ use nodes::tree::Tree;
 use table::figures::Figures;
 use table::limits;
 
-// A kind of tree that is counted in, and the depth of the nodes that the search has come to.
+// Words in which a tree of a kind is counted, and the depth of the nodes that the search has come to.
 pub trait Search: Copy {
     // The kind of the nodes.
     type Of: Tree;
 
-    // How the mirrors go by it; of how many slots words have the nodes; where the level of the depth begins; and what is asked of words.
+    // How the mirrors go by it; the words, of how many slots they have the nodes, and where the level of the depth begins.
     ghost how: { How };
 
-    ghost capacity: { Self → List ℕ → ℕ };
+    ghost words: { Self → List ℕ };
+
+    ghost capacity: { Self → ℕ };
 
     ghost base: { Self → ℕ };
 
-    ghost Holds: { Self → List ℕ → Type 0 };
-
     // The arms of a node's children, if it is of a slot.
-    fn record(self, t: &[u32], node: Node<Self::Of>) -> Option<Record<Self::Of>>
-        requires { Holds self t.now }
-        ensures { MatchOption result (leb (capacity self t.now) (node.0 / 2) ≡ true) (λ p.
-            (leb (capacity self t.now) (node.0 / 2) ≡ false) × (record_value p ≡ record_at t.now (how.place (base self) (node.0 / 2)))) };
+    fn record(self, node: Node<Self::Of>) -> Option<Record<Self::Of>>
+        ensures { MatchOption result (leb (capacity self) (node.0 / 2) ≡ true) (λ p.
+            (leb (capacity self) (node.0 / 2) ≡ false) × (record_value p ≡ record_at (words self) (how.place (base self) (node.0 / 2)))) };
 
     // One depth further down.
     fn deeper(self) -> Self
-        ensures level { (xs : List ℕ) → base result ≡ how.deeper (capacity self xs) (base self) }
-        ensures same { (xs : List ℕ) → capacity result xs ≡ capacity self xs }
-        ensures holds { (xs : List ℕ) → Holds self xs → Holds result xs };
+        ensures level { base result ≡ how.deeper (capacity self) (base self) }
+        ensures same { capacity result ≡ capacity self }
+        ensures words { words result ≡ words self };
 
     // The arrival at a tree inside the box's side.
-    fn take(self, t: &[u32], b: Box, a: Arm<Self::Of>, tally: Figures) -> Figures
-        requires { Holds self t.now }
-        ensures { result.0 ≡ how.take (capacity self t.now) t.now (box_value b) (base self) (arm_value a) tally.0 };
+    fn take(self, b: Box, a: Arm<Self::Of>, tally: Figures) -> Figures
+        ensures { result.0 ≡ how.take (capacity self) (words self) (box_value b) (base self) (arm_value a) tally.0 };
 }
 
 // Beneath a node in which the end lies, and the other one does not. Either it lies in the inner child, and the outer one is beyond it, or the inner child is
 // inside the side.
 #[tactic(auto, using(crate::proofs::Ends::end_turns), unfolding(crate::specs::End::end_node))]
-fn to_end<E: End, S: Search>(t: &[u32], at: S, b: Box, start: Node<S::Of>, from: Figures) -> Figures
-    requires { S.Holds at t.now }
+fn to_end<E: End, S: Search>(at: S, b: Box, start: Node<S::Of>, from: Figures) -> Figures
     ensures { result.0
-        ≡ to_end♯ S.how S.Of.Along.along (S.capacity at t.now) t.now (box_value b) E.end deepest (S.base at) start.0 from.0 }
+        ≡ to_end♯ S.how S.Of.Along.along (S.capacity at) (S.words at) (box_value b) E.end deepest (S.base at) start.0 from.0 }
 {
     let mut here = at;
     let mut node = start;
     let mut tally = from;
     for turn in 0..limits::DEEPEST {
-        let Some(p) = here.record(t, node) else {
+        let Some(p) = here.record(node) else {
             return Figures::lost();
         };
         let (inner, outer) = E::inner_first(p.left, p.right);
@@ -68,7 +65,7 @@ fn to_end<E: End, S: Search>(t: &[u32], at: S, b: Box, start: Node<S::Of>, from:
             tally = E::skip(tally, outer.weight).visit();
             node = inner.node;
         } else {
-            tally = here.take(t, b, inner, tally);
+            tally = here.take(b, inner, tally);
             if E::lies_beyond::<<S::Of as Tree>::Along>(b, outer.least, outer.greatest) {
                 return E::skip(tally, outer.weight);
             }
@@ -81,31 +78,29 @@ fn to_end<E: End, S: Search>(t: &[u32], at: S, b: Box, start: Node<S::Of>, from:
 
 // The arrival at a tree in which the other end does not lie.
 #[tactic(auto, using(crate::proofs::Ends::skips), unfolding(crate::specs::End::meet_end))]
-fn meet_end<E: End, S: Search>(t: &[u32], here: S, b: Box, a: Arm<S::Of>, tally: Figures) -> Figures
-    requires { S.Holds here t.now }
-    ensures { result.0 ≡ meet_end♯ S.how S.Of.Along.along (S.capacity here t.now) t.now (box_value b) E.end (S.base here) (arm_value a) tally.0 }
+fn meet_end<E: End, S: Search>(here: S, b: Box, a: Arm<S::Of>, tally: Figures) -> Figures
+    ensures { result.0 ≡ meet_end♯ S.how S.Of.Along.along (S.capacity here) (S.words here) (box_value b) E.end (S.base here) (arm_value a) tally.0 }
 {
     if E::lies_beyond::<<S::Of as Tree>::Along>(b, a.least, a.greatest) {
         return E::skip(tally, a.weight);
     }
     if E::reaches_beyond::<<S::Of as Tree>::Along>(b, a.least, a.greatest) {
-        return to_end::<E, S>(t, here, b, a.node, tally.visit());
+        return to_end::<E, S>(here, b, a.node, tally.visit());
     }
-    here.take(t, b, a, tally)
+    here.take(b, a, tally)
 }
 
 // Beneath a node whose cell is neither inside the side nor clear of it. Where the right child begins before the side, the left one ends before it; where the
 // left child ends past the side, the right one begins past it.
 #[tactic(auto, using(crate::proofs::Ends::open_turns), unfolding(nodes::specs::Count::open_node))]
-fn opened<S: Search>(t: &[u32], at: S, b: Box, start: Node<S::Of>, from: Figures) -> Figures
-    requires { S.Holds at t.now }
-    ensures { result.0 ≡ opened♯ S.how S.Of.Along.along (S.capacity at t.now) t.now (box_value b) deepest (S.base at) start.0 from.0 }
+fn opened<S: Search>(at: S, b: Box, start: Node<S::Of>, from: Figures) -> Figures
+    ensures { result.0 ≡ opened♯ S.how S.Of.Along.along (S.capacity at) (S.words at) (box_value b) deepest (S.base at) start.0 from.0 }
 {
     let mut here = at;
     let mut node = start;
     let mut tally = from;
     for turn in 0..limits::DEEPEST {
-        let Some(p) = here.record(t, node) else {
+        let Some(p) = here.record(node) else {
             return Figures::lost();
         };
         let l = p.left;
@@ -118,8 +113,8 @@ fn opened<S: Search>(t: &[u32], at: S, b: Box, start: Node<S::Of>, from: Figures
             tally = tally.past().visit();
             node = l.node;
         } else {
-            let low = meet_end::<Low, S>(t, here, b, l, tally);
-            return meet_end::<High, S>(t, here, b, r, low);
+            let low = meet_end::<Low, S>(here, b, l, tally);
+            return meet_end::<High, S>(here, b, r, low);
         }
     }
     Figures::lost()
@@ -128,9 +123,8 @@ fn opened<S: Search>(t: &[u32], at: S, b: Box, start: Node<S::Of>, from: Figures
 // The figures of a tree's marks on the box's side, and the visits, onto a tally. Most trees begin before the side and end on it or past it: two comparisons
 // tell that such a one is opened.
 #[tactic(auto, unfolding(nodes::specs::Count::count_tree))]
-pub fn count<S: Search>(t: &[u32], here: S, b: Box, root: Arm<S::Of>, from: Figures) -> Figures
-    requires { S.Holds here t.now }
-    ensures { result.0 ≡ count_tree♯ S.how S.Of.Along.along (S.capacity here t.now) t.now (box_value b) (S.base here) (arm_value root) from.0 }
+pub fn count<S: Search>(here: S, b: Box, root: Arm<S::Of>, from: Figures) -> Figures
+    ensures { result.0 ≡ count_tree♯ S.how S.Of.Along.along (S.capacity here) (S.words here) (box_value b) (S.base here) (arm_value root) from.0 }
 {
     if <S::Of as Tree>::Along::before(b, root.least) {
         if <S::Of as Tree>::Along::before(b, root.greatest) {
@@ -141,7 +135,7 @@ pub fn count<S: Search>(t: &[u32], here: S, b: Box, root: Arm<S::Of>, from: Figu
             return from.past();
         }
     } else {
-        return here.take(t, b, root, from);
+        return here.take(b, root, from);
     }
-    opened(t, here, b, root.node, from.visit())
+    opened(here, b, root.node, from.visit())
 }

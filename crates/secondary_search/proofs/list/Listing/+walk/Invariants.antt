@@ -1,4 +1,4 @@
-use Rattle.secondary_search.proofs.list.+walk.Given as goal
+use Rattle.secondary_search.proofs.list.Listing.+walk.Given as goal
 
 abbrev pub decreases-walk : goal.decreases-walk
 decreases-walk l = l.fuel

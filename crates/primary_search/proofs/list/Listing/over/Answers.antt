@@ -1,6 +1,6 @@
 use borrow.Author.Rules.{rules}
 use Rattle.primary_search.specs.List.{list_over♯}
-use Rattle.primary_search.proofs.list.list_over.Goals as goal
+use Rattle.primary_search.proofs.list.Listing.over.Goals as goal
 
 pub returns-then-lacks_level : goal.returns-then-lacks_level
 unfolding list_over♯
