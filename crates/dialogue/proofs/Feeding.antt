@@ -1,11 +1,11 @@
 -- Bytes fed one after the other, as loops over chunks feed them, and their responses gathered one behind the other. Assumes nothing.
-use Prim.Native.Nat.{ℕ, ◌+◌, ◌-◌, ◌≤◌, ◌<◌}
-use mathlib.Core.Path.{◌≡◌, ◌∙◌}
+use Prim.Native.Nat.{ℕ, ◌+◌, ◌-◌, ◌<◌}
+use mathlib.Core.Path.{◌∙◌}
 use mathlib.Core.List.{List, [], ◌++◌, append-nil, append_assoc}
 use native.Mathlib.Omega.{arith}
 use native.Mathlib.Numerals.{add-one}
 use lib.ListN.{length, get_or, take, drop, length-drop}
-use lib.Seq.{take_all, take-suc, take-add, take-append-le, take-append-add}
+use lib.Seq.{take_all, take-suc, take-add}
 use Rattle.dialogue.specs.Dialogue as model
 use Rattle.dialogue.specs.Dialogue.{Fed, FedAll, none, then, FedThrough, Batched}
 use Rattle.dialogue.specs.Values.{Keeps}
@@ -20,11 +20,6 @@ fed-both {more = more} (then {text = first} {more = others} g r) h = rw (append_
 pub fed-next : {s t u : model.Dialogue} {text more : List ℕ} (chunk : List ℕ) (i : ℕ) → i < length chunk → FedAll s (take i chunk) t text
     → Fed (get_or chunk i 0) t u more → FedAll s (take (i + 1) chunk) u (text ++ more)
 fed-next {more = more} chunk i h g f = rw (add-one i, take-suc chunk i 0 h) (rw (append-nil more) at (fed-both g (then f none)))
-
--- a response written behind others, of which there are `at` bytes
-pub text-next : (front part rest : List ℕ) (at n : ℕ) → length front ≡ at → n ≤ length part
-    → take (at + n) (front ++ (part ++ rest)) ≡ front ++ take n part
-text-next front part rest at n e h = rw (← e, take-append-add front (part ++ rest) n, take-append-le n part rest h)
 
 -- the lent runs stay the same from turn to turn
 pub keeps-on : {d e f : Dialogue} → Keeps d e → Keeps e f → Keeps d f

@@ -1,5 +1,6 @@
 -- The whole program: from an accepted open on, whatever the input and however it is read, all that a dialogue prints is what the model prints for the
 -- input's lines. Assumes nothing.
+use Rattle.std.specs.Prelude.{Result, IsOk}
 use Prim.Native.Nat.{ℕ}
 use mathlib.Core.Path.{◌≡◌, refl, ap, ◌∙◌}
 use mathlib.Core.Logic.{◌≢◌}
@@ -16,6 +17,8 @@ use Rattle.twofold_layout.specs.Sound.{Holding}
 use Rattle.table.specs.Header.{capacity_of}
 use Rattle.register.proofs.Stands.{Stands, call-follows}
 use Rattle.register.proofs.History.{open-later}
+use Rattle.register.specs.declared.refusal.Refusal.{Refusal}
+use Rattle.register.specs.Answers.{open_answer}
 use Rattle.register.specs.Performs.{Lent, alone, own, early, Performs}
 use Rattle.lines.specs.Commands.{Command, insert, strike, count, list}
 use Rattle.lines.specs.Input.{TakenAs, last_line, lines_after, lines_of, Gathered, within, beyond}
@@ -23,6 +26,7 @@ use Rattle.lines.specs.Responses.{printed, not_a_line}
 use Rattle.lines.specs.Reading.{read♯}
 use Rattle.lines.proofs.Reading.{reads-line}
 use Rattle.lines.proofs.Gathering.{taken-reads, gathered_none, gathered-more, gathered-room, taken-once}
+use Rattle.dialogue.proofs.Answering.{accepted-ok}
 use Rattle.dialogue.specs.Responding.{call_of, lent_to, Performed, Does, performed, turned_away, Responds}
 use Rattle.dialogue.specs.Dialogue.{Dialogue, ends, goes_on, Ended, rest, no_rest, FedAll, none as no_byte, then, Runs}
 use Rattle.dialogue.specs.Program.{Prints, nothing, command, other, marks, table_words, list_words, opened, Begun}
@@ -108,6 +112,10 @@ open-accepted words before after a e p = ap (λ a. a.number) (open-later (p.late
 pub open-begins : (xs ys : List ℕ) (a : Answer) → length xs ≡ table_words → Performs (open_for marks (length xs)) (alone xs) (alone ys) a
     → (capacity_of ys ≡ marks) × Holding (own ys) none
 open-begins xs ys a long p = let made = p.starts (open-accepted (length xs) (alone xs) (alone ys) a long p) in (made.0, made.1)
+
+pub open-ok : (xs ys : List ℕ) (r : Result Unit Refusal) → length xs ≡ table_words
+    → Performs (open_for marks (length xs)) (alone xs) (alone ys) (open_answer r) → IsOk r
+open-ok xs ys r long p = accepted-ok r (open-accepted (length xs) (alone xs) (alone ys) (open_answer r) long p)
 
 -- from there on, whatever the input
 pub program-prints : (s : Dialogue) → Begun s → (input output : List ℕ) → Runs s input output → Prints list_words opened (lines_of input) output

@@ -1,15 +1,16 @@
 -- What a line does: the call that it asks for, on the words that the program holds, and the text printed (document 01, "The planner and the line program").
 -- Assumes nothing.
-use Rattle.std.specs.Prelude.{ℕ, ◌+◌, ◌*◌, ◌≤◌, ◌<◌, ◌≡◌, List, length}
+use Rattle.std.specs.Prelude.{ℕ, ◌+◌, ◌*◌, ◌≤◌, ◌<◌, ◌≡◌, List, [], length, Result, Ok, Err}
 use Rattle.std.proofs.Math.Option.{Option, none, some}
 use Rattle.model.specs.Sheet.{mark}
 use Rattle.model.specs.History as history
 use Rattle.model.specs.History.{Call, Answer}
+use Rattle.register.specs.declared.refusal.Refusal.{Refusal}
+use Rattle.register.specs.Answers.{number_of}
 use Rattle.register.specs.Performs.{Lent, alone, Performs}
 use Rattle.lines.specs.Commands.{Command, insert, strike, count, list}
 use Rattle.lines.specs.Input.{TakenAs}
 use Rattle.lines.specs.Responses.{printed, not_a_line}
-use Rattle.lines.specs.Writing.{Wrote}
 
 -- the call of a command; a list is lent two lists, of these lengths. A strike does not look at a grade: 0 stands in its place.
 abbrev pub call_of : Command → (first second : ℕ) → Call
@@ -50,9 +51,8 @@ longest_response words = 46 + 11 * words
 abbrev pub Room : (first out : List ℕ) → Type 0
 Room first out = (longest_response (length first) ≤ length out) × (length out < 4294967296)
 
--- the answer of a call, and what of it was written into the bytes `out`
-pub record Answered (c : Command) (call : Call) (before after : Lent) (out : List ℕ) (place : ℕ) (out' : List ℕ) : Type 0 where
-  pub answer : Answer
-  pub performs : Performs call before after answer
-  pub wrote : Wrote out 0 (printed c answer) place out'
-  pub room : place ≤ longest_response (length before.first)
+-- a command performed on the words held, by what the call gave, and the text gathered of it: the whole response of an accepted one, nothing of a refusal
+pub data Answered (c : Command) (before after : Lent) (text : List ℕ) : Result Unit Refusal → Type 0 where
+  accepted : {a : Answer} {u : Unit} → Performed c before after a → text ≡ printed c a → length text ≤ longest_response (length before.first)
+      → Answered c before after text (Ok u)
+  refused : {a : Answer} {e : Refusal} → Performed c before after a → a.number ≡ number_of e → text ≡ [] → Answered c before after text (Err e)

@@ -2,6 +2,5 @@
 #![tactic(auto)]
 
 mod dialogue;
-pub mod perform;
 
 pub use dialogue::Dialogue;

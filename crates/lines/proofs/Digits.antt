@@ -7,6 +7,8 @@ use native.Mathlib.Omega.{arith}
 use lib.Dec.{ltb}
 use lib.ListN.{length, length-append}
 use borrow.Author.Tests.{ltb-true, ltb-false, lt-ltb, le-ltb}
+use Rattle.std.specs.Fmt.{decimal}
+use Rattle.std.proofs.lemmas.Fmt.{decimal_digit, decimal_step}
 use Rattle.model.proofs.Logic.{by_cases}
 use Rattle.lines.specs.Text.{last_digits, digits}
 
@@ -62,6 +64,8 @@ digits-fewer (suc k) n h =
 pub digits-short : (n : ℕ) → n < 4294967296 → length (digits n) ≤ 10
 digits-short n h = digits-fewer 9 n (omega arith)
 
--- its digits are one more than a tenth's
-pub digits-longer : (n : ℕ) → 10 ≤ n → length (digits n) ≡ length (digits (n / 10)) + 1
-digits-longer n h = rw (digits_more n h) (length-append (digits (n / 10)) ((48 + n % 10) ∷ []))
+-- they are the text that the library prints for it
+pub digits-decimal : (n : ℕ) → n < 4294967296 → digits n ≡ decimal n
+digits-decimal = digits-rec (λ n. n < 4294967296 → digits n ≡ decimal n)
+    (λ n h k. rw (digits-single n h, decimal_digit n h))
+    (λ n h e k. rw (digits_more n h, decimal_step n h (omega arith), e (omega arith)))

@@ -15,7 +15,7 @@ use Rattle.table.specs.Marks.{list_mark, list_marks}
 use Rattle.lines.specs.Text.{digits, fields}
 use Rattle.lines.specs.Numerals.{Word}
 use Rattle.lines.specs.Commands.{Command, insert, strike, count, list, letter, numbers, written, Words}
-use Rattle.lines.specs.Responses.{answer_line, refusal_line, first_line, mark_line, mark_lines, figures, marks_after, printed}
+use Rattle.lines.specs.Responses.{answer_line, refusal_line, mark_line, mark_lines, figures, marks_after, printed}
 use Rattle.lines.proofs.Digits.{digits-short}
 
 -- ---- part by part
@@ -61,7 +61,12 @@ fields-short : (ns : List ℕ) → All Word ns → length (fields ns) ≤ 11 * l
 fields-short [] nil = omega arith
 fields-short (n ∷ ns) (cons h hs) = omega (arith, length-append (digits n) (fields ns), digits-short n h, fields-short ns hs)
 
-answer-short : (c : ℕ) (ns : List ℕ) → All Word ns → length (answer_line c ns) ≤ 2 + 11 * length ns
+-- words, as the code has them
+pub words : (ns : List ℕ) → ((i : ℕ) → Word (get_or ns i 0)) → All Word ns
+words [] h = nil
+words (n ∷ ns) h = cons (h 0) (words ns (λ i. h (suc i)))
+
+pub answer-short : (c : ℕ) (ns : List ℕ) → All Word ns → length (answer_line c ns) ≤ 2 + 11 * length ns
 unfolding answer_line
 answer-short c ns h = omega (arith, length-append (c ∷ fields ns) (10 ∷ []), fields-short ns h)
 
@@ -70,7 +75,7 @@ abbrev pub MarkWord : Mark → Type 0
 MarkWord m = All Word (m.x ∷ m.y ∷ m.tag ∷ m.grade ∷ [])
 
 -- "`x,y,tag,grade`" with its line feed
-mark-short : (m : Mark) → MarkWord m → length (mark_line m) ≤ 44
+pub mark-short : (m : Mark) → MarkWord m → length (mark_line m) ≤ 44
 unfolding mark_line
 mark-short m (cons hx hs) =
     let behind : List ℕ = m.y ∷ m.tag ∷ m.grade ∷ [] in
@@ -114,11 +119,6 @@ module _ (c : Command) (a : Answer) where
       few (strike x y tag) a = omega arith
       few (count b) a = omega arith
       few (list b) a = omega arith
-
-  -- a response of one line
-  pub printed-first : marks_after c a ≡ [] → printed c a ≡ first_line (letter c) a.number (figures c a)
-  unfolding printed first_line
-  printed-first h = rw (h, append-nil (answer_line (letter c) (figures c a)))
 
   pub printed-refused : (a.number ≡ 0 → ⊥) → printed c a ≡ refusal_line a.number
   unfolding printed

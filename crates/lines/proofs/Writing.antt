@@ -1,11 +1,16 @@
--- Bytes written one after the other. Assumes nothing.
-use Prim.Native.Nat.{ℕ, suc, ◌+◌, ◌≤◌}
-use mathlib.Core.Path.{◌≡◌, refl, ap, ◌∙◌}
-use mathlib.Core.List.{List, [], ◌∷◌, ◌++◌}
+-- Text written piece by piece is written as a whole, and stands behind the text before it. Assumes nothing.
+use Prim.Native.Nat.{ℕ, suc, ◌+◌, ◌-◌, ◌≤◌, min}
+use mathlib.Core.Path.{◌≡◌, refl, sym, ap, ◌∙◌}
+use mathlib.Core.List.{List, [], ◌∷◌, ◌++◌, append_assoc}
 use native.Mathlib.Omega.{arith}
-use lib.ListN.{length, take, drop, length-append}
-use lib.Seq.{sets, sets-eq, take-append_seam}
-use Rattle.lines.specs.Writing.{Wrote}
+use lib.Dec.{ltb, leb}
+use lib.ListN.{length, take, drop, length-append, take-append-drop, drop_of_length-le}
+use lib.Seq.{sets, sets-eq, length-sets, length-take-le, take_at, drop-drop}
+use borrow.Author.Tests.{ltb-true, ltb-false, leb-true, leb-false}
+use Rattle.std.proofs.lemmas.List.{set_past}
+use Rattle.model.proofs.Logic.{by_cases}
+use Rattle.lines.specs.declared.response.Responses.{Responses}
+use Rattle.lines.specs.Writing.{text_in, Wrote}
 
 sets-append : (xs : List ℕ) (at : ℕ) (bs cs : List ℕ) → sets (sets xs at bs) (at + length bs) cs ≡ sets xs at (bs ++ cs)
 sets-append xs at [] cs = let e : at + 0 ≡ at = omega arith in ap (λ (i : ℕ). sets xs i cs) e
@@ -13,22 +18,56 @@ sets-append xs at (b ∷ bs) cs =
     let e : at + suc (length bs) ≡ suc at + length bs = omega arith in
     ap (λ (i : ℕ). sets (sets xs at (b ∷ bs)) i cs) e ∙ sets-append _ (suc at) bs cs
 
--- bytes, and more from the place after them
-pub wrote_then : {xs ys zs bs cs : List ℕ} {at place end : ℕ} → Wrote xs at bs place ys → Wrote ys place cs end zs → Wrote xs at (bs ++ cs) end zs
-wrote_then {xs} {ys} {zs} {bs} {cs} {at} {place} {end} w v =
+-- behind the last byte nothing finds room
+sets-past : (xs : List ℕ) (at : ℕ) (bs : List ℕ) → length xs ≤ at → sets xs at bs ≡ xs
+sets-past xs at [] h = refl
+sets-past xs at (b ∷ bs) h = rw (set_past xs at b h) (sets-past xs (suc at) bs (omega arith))
+
+text-length : (r : Responses) → length (text_in r) ≡ r.len
+text-length r = length-take-le r.len r.bytes.now r.within
+
+-- as many bytes as find room, written over those from `at` on
+pub sets-fitting : (xs bs : List ℕ) (at f : ℕ) → at ≤ length xs → f ≡ min (length bs) (length xs - at)
+    → sets xs at bs ≡ take at xs ++ (take f bs ++ drop f (drop at xs))
+sets-fitting xs bs at f h e =
+    let front : List ℕ = take f bs in
+    let short : length front ≡ f = length-take-le f bs (omega arith) in
+    ap (λ (l : List ℕ). sets xs at l) (sym (take-append-drop f bs))
+    ∙ sym (sets-append xs at front (drop f bs))
+    ∙ by_cases (ltb f (length bs))
+    (λ t. let less = ltb-true f (length bs) t in sets-past (sets xs at front) (at + length front) (drop f bs) (omega (arith, length-sets xs at front)))
+    (λ u. let all = ltb-false f (length bs) u in rw (drop_of_length-le bs all))
+    ∙ sets-eq front xs at (omega arith)
+    ∙ rw (short, drop-drop f at xs) (append_assoc (take at xs) front (drop (at + f) xs))
+
+-- more behind it, whether or not the first found room
+pub wrote_then : {bs cs : List ℕ} {r s t : Responses} → Wrote bs r s → Wrote cs s t → Wrote (bs ++ cs) r t
+wrote_then {bs} {cs} {r} {s} {t} w v =
+    let xs : List ℕ = r.bytes.now in
+    let whole = sets-append xs r.len bs cs in
     record {
-      next = omega (arith, w.next, v.next, length-append bs cs);
-      bytes = v.bytes ∙ rw (w.bytes, w.next) (sets-append xs at bs cs);
+      bytes = v.bytes ∙ by_cases (leb (r.len + length bs) (length xs))
+          (λ u.
+          let within = leb-true (r.len + length bs) (length xs) u in
+          let end : s.len ≡ r.len + length bs = omega (arith, w.len) in
+          rw (w.bytes, end) whole)
+          (λ u.
+          let over = leb-false (r.len + length bs) (length xs) u in
+          sets-past s.bytes.now s.len cs (omega (arith, w.len, w.room))
+          ∙ sym (sets-past s.bytes.now (r.len + length bs) cs (omega (arith, w.room)))
+          ∙ rw w.bytes whole);
+      len = omega (arith, w.len, v.len, w.room, length-append bs cs);
+      room = v.room ∙ w.room;
+      same = v.same ∙ w.same;
     }
 
--- nothing
-pub wrote_nothing : (xs : List ℕ) (at : ℕ) → Wrote xs at [] at xs
-wrote_nothing xs at = record { next = omega arith; bytes = refl }
+pub wrote_nothing : (r : Responses) → Wrote [] r r
+wrote_nothing r = record { bytes = refl; len = omega (arith, r.within); room = refl; same = refl }
 
--- where there is room, what was written from the start stands there
-pub wrote-front : {xs bs ys : List ℕ} {place : ℕ} → Wrote xs 0 bs place ys → place ≤ length xs → take place ys ≡ bs
-wrote-front {xs} {bs} {ys} {place} w room =
-    let zeroth : 0 + length bs ≡ length bs = omega arith in
-    let all : place ≡ length bs = w.next ∙ zeroth in
-    let text : ys ≡ bs ++ drop (length bs) xs = w.bytes ∙ rw zeroth at (sets-eq bs xs 0 (omega arith)) in
-    rw (all, text) (take-append_seam bs (drop (length bs) xs))
+-- where there is room for it, the whole text
+pub wrote-all : {bs : List ℕ} {r s : Responses} → Wrote bs r s → r.len + length bs ≤ length r.bytes.now → text_in s ≡ text_in r ++ bs
+wrote-all {bs} {r} {s} w room =
+    let end : s.len ≡ r.len + length bs = omega (arith, w.len) in
+    rw (w.bytes, end, sets-eq bs r.bytes.now r.len room)
+    (take_at (take r.len r.bytes.now ++ bs) (drop (r.len + length bs) r.bytes.now) (r.len + length bs)
+    (omega (arith, length-append (take r.len r.bytes.now) bs, text-length r)))

@@ -13,10 +13,6 @@ answer_line c ns = c ∷ fields ns ++ line_feed ∷ []
 unfoldable pub refusal_line : ℕ → List ℕ
 refusal_line number = answer_line 82 (number ∷ [])
 
--- the first line of a response: a letter with figures, or the refusal
-unfoldable pub first_line : ℕ → ℕ → List ℕ → List ℕ
-first_line c number ns = if eqb number 0 then answer_line c ns else refusal_line number
-
 -- number 11: "not a line as below"
 abbrev pub not_a_line : List ℕ
 not_a_line = refusal_line 11

@@ -1,72 +1,111 @@
-// What is printed for a line (document 01, "The planner and the line program"), written into lent bytes. Each function gives the place after what it wrote.
-ghost use Rattle.std.specs.Prelude.{◌∷◌, ◌+◌, ◌*◌, ◌≤◌, ◌<◌, length};
+// What is printed for lines (document 01, "The planner and the line program"), gathered in lent bytes.
+ghost use Rattle.std.specs.Prelude.{◌≡◌, ◌+◌, ◌-◌, ◌*◌, ◌≤◌, length};
 ghost use Rattle.geometry.specs.Values.{mark_value};
 ghost use Rattle.table.specs.Marks.{list_marks};
-ghost use Rattle.lines.specs.Text.{comma, digits, fields};
-ghost use Rattle.lines.specs.Writing.{Wrote};
+ghost use Rattle.lines.specs.Text.{digits, fields};
 ghost use Rattle.lines.specs.Responses.{answer_line, refusal_line, mark_line, mark_lines};
 
-use crate::number;
 use geometry::Mark;
+use itoa::Buffer;
 use table::slots;
 
-// A comma, and a number after it: 11 bytes at the most.
-fn put_field(out: &mut [u8], at: u32, n: u32) -> u32
-    requires { at + 11 < 4294967296 }
-    ensures { (result ≤ at + 11) × Wrote out.old at (comma ∷ digits n) result out.new }
-{
-    let next = number::put_byte(out, at, b',');
-    number::put_number(out, next, n)
+// Responses one behind the other. The bytes are lent, since nothing here takes memory; what finds no room in them is left out.
+#[derive(Drop)]
+pub struct Responses<'a> {
+    bytes: &'a mut [u8],
+    len: usize,
+    ghost within: { len ≤ length bytes.now },
 }
 
-// Numbers, a comma before each.
-fn put_fields(out: &mut [u8], at: u32, numbers: &[u32]) -> u32
-    requires { at + 11 * length numbers.now < 4294967296 }
-    ensures { (result ≤ at + 11 * length numbers.now) × Wrote out.old at (fields numbers.now) result out.new }
-{
-    let mut next = at;
-    for n in numbers {
-        next = put_field(out, next, *n);
+impl<'a> Responses<'a> {
+    ghost use Rattle.lines.specs.Writing.{text_in, Wrote};
+
+    pub fn new(bytes: &'a mut [u8]) -> Responses<'a>
+        ensures bytes { (result.bytes.ghost_name ≡ bytes.entry.ghost_name) × (result.bytes.now ≡ bytes.old) }
+        ensures none { result.len ≡ 0 }
+    {
+        Responses { bytes, len: 0 }
     }
-    next
-}
 
-// A letter and its figures, at most four, as `I,live,rebuilt`: 46 bytes at the most.
-pub fn put_figures(out: &mut [u8], letter: u8, figures: &[u32]) -> u32
-    requires { length figures.now ≤ 4 }
-    ensures { (result ≤ 46) × Wrote out.old 0 (answer_line letter figures.now) result out.new }
-{
-    let at = number::put_byte(out, 0, letter);
-    let end = put_fields(out, at, figures);
-    number::put_byte(out, end, b'\n')
-}
-
-// `R,number`.
-pub fn put_refusal(out: &mut [u8], number: u32) -> u32
-    ensures { (result ≤ 46) × Wrote out.old 0 (refusal_line number) result out.new }
-{
-    put_figures(out, b'R', &[number])
-}
-
-// `x,y,tag,grade`, which with its line feed has at most 44 bytes.
-fn put_mark(out: &mut [u8], at: u32, m: Mark) -> u32
-    requires { at + 44 < 4294967296 }
-    ensures { (result ≤ at + 44) × Wrote out.old at (mark_line (mark_value m)) result out.new }
-{
-    let next = number::put_number(out, at, m.x);
-    let end = put_fields(out, next, &[m.y, m.tag, m.grade]);
-    number::put_byte(out, end, b'\n')
-}
-
-// A line for each of the first k marks of a list.
-pub fn put_marks(out: &mut [u8], at: u32, list: &[u32], k: u32) -> u32
-    requires { at + 44 * k < 4294967296 }
-    ensures { (result ≤ at + 44 * k) × Wrote out.old at (mark_lines (list_marks list.now 0 k)) result out.new }
-{
-    let mut next = at;
-    for i in 0..k {
-        let m = slots::listed(list, i);
-        next = put_mark(out, next, m);
+    pub fn text(&self) -> &[u8]
+        ensures { result.now ≡ text_in self.now }
+    {
+        &self.bytes[..self.len]
     }
-    next
+
+    // How many bytes more find room.
+    pub fn room(&self) -> usize
+        ensures { result ≡ length self.now.bytes.now - self.now.len }
+    {
+        self.bytes.len() - self.len
+    }
+
+    // Begins anew.
+    pub fn clear(&mut self)
+        ensures { (self.new.bytes ≡ self.old.bytes) × (self.new.len ≡ 0) }
+    {
+        self.len = 0;
+    }
+
+    fn put(&mut self, text: &[u8])
+        ensures { Wrote text.now self.old self.new }
+    {
+        let fits = text.len().min(self.room());
+        self.bytes[self.len..self.len + fits].copy_from_slice(&text[..fits]);
+        self.len += fits;
+    }
+
+    fn put_number(&mut self, n: u32)
+        ensures { Wrote (digits n) self.old self.new }
+    {
+        self.put(Buffer::new().format(n).as_bytes());
+    }
+
+    // Numbers, a comma before each.
+    fn put_fields(&mut self, numbers: &[u32])
+        ensures { Wrote (fields numbers.now) self.old self.new }
+    {
+        for n in numbers {
+            self.put(b",");
+            self.put_number(*n);
+        }
+    }
+
+    // A letter and its figures, as `I,live,rebuilt`.
+    pub fn put_figures(&mut self, letter: u8, figures: &[u32])
+        ensures wrote { Wrote (answer_line letter figures.now) self.old self.new }
+        ensures short { length (answer_line letter figures.now) ≤ 2 + 11 * length figures.now }
+    {
+        self.put(&[letter]);
+        self.put_fields(figures);
+        self.put(b"\n");
+    }
+
+    // `R,number`.
+    pub fn put_refusal(&mut self, number: u32)
+        ensures wrote { Wrote (refusal_line number) self.old self.new }
+        ensures short { length (refusal_line number) ≤ 13 }
+    {
+        self.put_figures(b'R', &[number]);
+    }
+
+    // `x,y,tag,grade`.
+    fn put_mark(&mut self, m: Mark)
+        ensures wrote { Wrote (mark_line (mark_value m)) self.old self.new }
+        ensures short { length (mark_line (mark_value m)) ≤ 44 }
+    {
+        self.put_number(m.x);
+        self.put_fields(&[m.y, m.tag, m.grade]);
+        self.put(b"\n");
+    }
+
+    // A line for each of the first k marks of a list.
+    pub fn put_marks(&mut self, list: &[u32], k: u32)
+        ensures wrote { Wrote (mark_lines (list_marks list.now 0 k)) self.old self.new }
+        ensures short { length (mark_lines (list_marks list.now 0 k)) ≤ 44 * k }
+    {
+        for i in 0..k {
+            self.put_mark(slots::listed(list, i));
+        }
+    }
 }

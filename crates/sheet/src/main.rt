@@ -80,8 +80,8 @@ fn main(rt: HostRuntime) {
     let mut second = [0u32; 160];
     // Far more than the longest response, so that the responses to a chunk go out in few writes.
     let mut out = [0u8; 65536];
-    // The words are those of a table for so many marks: this is no refusal.
-    let _ = register::open::open(&mut table, MARKS);
+    // No refusal: the words are those of a table for so many marks.
+    register::open::open(&mut table, MARKS).unwrap();
     let mut dialogue = Dialogue::new(&mut table, &mut first, &mut second, &mut out);
     if let Err(stop) = run(&rt, &mut dialogue) {
         // Where standard error takes nothing either there is no one left to tell.

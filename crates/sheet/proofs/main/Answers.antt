@@ -4,8 +4,12 @@ use mathlib.Core.Path.{ap}
 use lib.ListN.{length, replicate, length-replicate}
 use Rattle.register.specs.Answers.{open_answer}
 use Rattle.dialogue.specs.Program.{table_words}
-use Rattle.dialogue.proofs.Printing.{open-begins}
+use Rattle.dialogue.proofs.Printing.{open-ok, open-begins}
 use Rattle.sheet.proofs.main.Goals as goal
+
+pub unwrap-requires : goal.unwrap-requires
+unwrap-requires c =
+    open-ok (replicate {A = ℕ} table_words 0) c.«open».new.table c.«open».result (length-replicate {A = ℕ} table_words 0) c.«open».ensures
 
 pub run-requires : goal.run-requires
 run-requires c =

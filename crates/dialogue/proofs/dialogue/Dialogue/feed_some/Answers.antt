@@ -7,7 +7,6 @@ use Rattle.dialogue.proofs.dialogue.Dialogue.feed_some.Goals as goal
 
 pub loop-used-init : goal.loop-used-init
 loop-used-init c = (
-  refl,
   record {
     table = refl;
     first = refl;
@@ -18,16 +17,17 @@ loop-used-init c = (
     second_length = refl;
     out_length = refl;
   },
-  λ e. refl,
-  none,
+  λ e. c.clear.ensures.1,
+  rw c.clear.ensures.1 none,
 )
 
 pub loop-used-preserved : goal.loop-used-preserved
 loop-used-preserved c =
     let now = c.loop-used in
-    let fed = c.feed.ensures in (
-      omega (arith, now.invariant.0, fed.keeps.first_length),
-      keeps-on now.invariant.1 fed.keeps,
+    let fed = c.feed.ensures in
+    let room = c.has_room.ensures.0 c.if-not-has_room.false in (
+      keeps-on now.invariant.0 fed.keeps,
       λ e. absurd (omega arith),
-      rw fed.fed.gathered (fed-next c.args.chunk.now now.used c.loop-used-test.true now.invariant.3 fed.fed.holds),
+      rw (fed.fed.gathered room)
+          (fed-next c.args.chunk.now now.used c.loop-used-test.true now.invariant.2 fed.fed.holds),
     )
