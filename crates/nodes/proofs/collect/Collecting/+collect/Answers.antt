@@ -5,9 +5,9 @@ use native.Mathlib.Omega.{arith}
 use borrow.Author.Tests.{eq-eqb, le-leb, lt-leb, ne_eqb}
 use Rattle.nodes.specs.Collect.{collect_both, collect_inner, collect_at, collect♯-zero}
 use Rattle.nodes.proofs.Turns.{collect-turn, collect-left, collect-left-leaf, collect-spent}
-use Rattle.nodes.proofs.collect.+collect.Goals as goal
-use Rattle.nodes.proofs.collect.+collect.Goals.{then-part-eq0-via-then-part-eq0, then-part-eq0-via-else-part-eq0+then-rest-part}
-use Rattle.nodes.proofs.collect.+collect.Goals.{then-is_leaf-2+else-left-eq0+in_ok-got, else-is_leaf-2+in_ok-got-2}
+use Rattle.nodes.proofs.collect.Collecting.+collect.Goals as goal
+use Rattle.nodes.proofs.collect.Collecting.+collect.Goals.{then-part-eq0-via-then-part-eq0, then-part-eq0-via-else-part-eq0+then-rest-part}
+use Rattle.nodes.proofs.collect.Collecting.+collect.Goals.{then-is_leaf-2+else-left-eq0+in_ok-got, else-is_leaf-2+in_ok-got-2}
 
 pub returns-then-capacity-got : goal.returns-then-capacity-got
 unfolding collect_at
@@ -28,6 +28,7 @@ returns-then-is_leaf g t c = rw (
   ← c.is_leaf.ensures,
   ← c.slot-name.ensures,
   c.if-is_leaf.true,
+  c.capacity-capacity.ensures,
   ← c.take.ensures,
 )
 
@@ -109,6 +110,7 @@ returns-in_err-got g t c =
       lt-leb _ _ c.if-rest-part.false,
       collect-left-leaf _ _ _ _ _ _ _ _ c.if-left-eq0.false c.if-capacity-got.false (sym c.if-is_leaf-2.ensures),
       ← c.slot.ensures,
+      c.capacity-capacity.ensures,
       ← c.in_err-got.ensures,
       p.1,
     )
@@ -155,6 +157,7 @@ loop-turn-preserved g t c =
           lt-leb _ _ c.if-rest-part.false,
           collect-left-leaf _ _ _ _ _ _ _ _ w.if-left-eq0.false c.if-capacity-got.false (sym w.if-is_leaf-2.ensures),
           ← w.slot.ensures,
+          c.capacity-capacity.ensures,
           ← w.in_ok-got.ensures,
           w.t-is,
           w.got-is,
