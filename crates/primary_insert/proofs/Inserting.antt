@@ -42,7 +42,8 @@ use Rattle.secondary_update.specs.Insert.{auxiliary_insert♯}
 use Rattle.secondary_update.proofs.Inserting.{insert-times, insert-weight, insert-least, insert-names}
 use Rattle.secondary_update.proofs.Inserting.{rebuilt-weight, grown-arm, leaf-held, grown-within}
 use Rattle.primary_insert.specs.Insert.{main_leaf♯, main_afresh♯, MainInsertion, insert_beneath♯, main_insert♯}
-use Rattle.primary_insert.specs.Insert.{main_insert_child, main_insert_node}
+use Rattle.primary_insert.specs.Insert.{main_steps}
+use Rattle.secondary_update.specs.Insert.{child♯, turn♯}
 use Rattle.twofold_layout.proofs.Beneath.{beneath-record, beneath-two}
 use Rattle.primary_insert.proofs.Way.{arm-kept, AuxiliaryGrown, auxiliary-grown, two-way-left, two-way-right}
 use Rattle.primary_insert.proofs.Ready.{TwoReady, X, R, grow, mend, Grown, by_x, ready-room, ready-new, ready-within, ready-once}
@@ -212,10 +213,10 @@ module _ (f : ℕ → Mark) (C s : ℕ) (small : C ≤ 65536) (in_c : s < C) whe
   module _ {d at : ℕ} {xs : List ℕ} (i : SlotAuxiliary) (l r : SlotMain) (k : TwoReady f C s d at xs (node i l r)) (rec : MainInsertion) where
     abbrev Onward : Bool → After ℕ
     Onward left =
-        main_insert_child rec C (f s) s (level_place C d) (least r) (way_of (arms (arm_of along_x f l) (arm_of along_x f r)) left) at
-        (arm_of along_x f (node i l r)) xs
+        child♯ along_x C main_place true (f s) s (main_steps rec C (f s) s (level_place C d)) (least r)
+        (way_of (arms (arm_of along_x f l) (arm_of along_x f r)) left) at (arm_of along_x f (node i l r)) xs
 
-    insert_beneath-node : main_insert_node rec C (f s) s (level_place C d) at xs ≡ Onward (below_x (f s) (f (least r)))
+    insert_beneath-node : turn♯ along_x C main_place true (f s) s (main_steps rec C (f s) s (level_place C d)) at xs ≡ Onward (below_x (f s) (f (least r)))
     unfolding way_at
     insert_beneath-node =
         let odd : ((2 * least r + 1) % 2 ≡ 0 → ⊥) = omega arith in
@@ -265,8 +266,8 @@ module _ (f : ℕ → Mark) (C s : ℕ) (small : C ≤ 65536) (in_c : s < C) whe
           )
 
   insert_beneath-leaf : {d at : ℕ} {xs : List ℕ} (q : ℕ) (rec : MainInsertion) → TwoReady f C s d at xs (leaf q)
-      → main_insert_node rec C (f s) s (level_place C d) at xs ≡ main_leaf♯ C (f s) s (level_place C d) at
-      (arm_of {I = SlotAuxiliary} along_x f (leaf q)) xs
+      → turn♯ along_x C main_place true (f s) s (main_steps rec C (f s) s (level_place C d)) at xs
+      ≡ main_leaf♯ C (f s) s (level_place C d) at (arm_of {I = SlotAuxiliary} along_x f (leaf q)) xs
   insert_beneath-leaf q rec k =
       let even : 2 * q % 2 ≡ 0 = omega arith in
       let half : 2 * q / 2 ≡ q = omega arith in

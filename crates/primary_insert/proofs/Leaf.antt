@@ -26,7 +26,7 @@ use Rattle.twofold_layout.specs.TwoFold.{HoldsAuxiliary}
 use Rattle.twofold_layout.proofs.Frames.{TwoFrame, TwoSpot, two_frame-at, main-frame_at, level-frame_at}
 use Rattle.twofold_layout.proofs.Kept.{clear_none, kept_arm}
 use Rattle.twofold_layout.proofs.Over.{TwoLeavesAt, two-main}
-use Rattle.secondary_update.specs.Insert.{split♯, insert_node, insert_arm, insert♯, auxiliary_insert♯}
+use Rattle.secondary_update.specs.Insert.{split♯, insert♯, auxiliary_insert♯}
 use Rattle.secondary_update.proofs.Inserting.{leaf-held}
 use Rattle.secondary_update.proofs.Auxiliaries.{carried}
 use Rattle.secondary_update.specs.Insert.{split_name}
@@ -129,7 +129,7 @@ module _ {f : ℕ → Mark} {C s : ℕ} (small : C ≤ 65536) (in_c : s < C) whe
   split-words : {d at : ℕ} {xs : List ℕ} (q : ℕ) → TwoReady f C s d at xs (leaf q)
       → (insert♯ along_x 1 C main_place (f s) s false at xs).words ≡ split♯ along_x main_place (f s) s at
       (arm_of {I = SlotAuxiliary} along_x f (leaf q)) xs
-  unfolding insert♯ insert_node insert_arm
+  unfolding insert♯
   split-words q k =
       let even : 2 * q % 2 ≡ 0 = omega arith in
       let half : 2 * q / 2 ≡ q = omega arith in

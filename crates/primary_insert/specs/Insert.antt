@@ -1,18 +1,16 @@
 -- The mirror of the insertion into the two-fold tree. Assumes nothing.
-use Rattle.std.specs.Prelude.{ℕ, zero, suc, ◌+◌, ◌-◌, ◌/◌, ◌%◌, ◌≤◌, ◌<◌, ◌^◌}
-use Rattle.std.specs.Prelude.{◌≡◌, refl, true, false, not, List, leb, eqb, length, if◌then◌else◌}
+use Rattle.std.specs.Prelude.{ℕ, zero, suc, ◌-◌, ◌/◌}
+use Rattle.std.specs.Prelude.{◌≡◌, refl, true, false, List, eqb, if◌then◌else◌}
 use Rattle.std.proofs.Common.{arith}
 use Rattle.model.specs.Sheet.{Mark, along_x}
-use Rattle.table.specs.Layout.{arm_width, runs_end, main_place, auxiliary_place, root_place}
+use Rattle.table.specs.Layout.{main_place, auxiliary_place, root_place}
 use Rattle.table.specs.Limits.{deepest, damaged, no_slot}
 use Rattle.table.specs.Marks.{slot_mark}
-use Rattle.nodes.specs.Arms.{Arm, Way, leaf_arm, grown_arm, arm_at, put_arm, child_at}
-use Rattle.nodes.specs.Ways.{way_at}
+use Rattle.nodes.specs.Arms.{Arm, leaf_arm, grown_arm, arm_at, put_arm}
 use Rattle.table.specs.After.{After, after}
 use Rattle.twofold_layout.specs.Levels.{top_level, deeper}
-use Rattle.secondary_update.specs.Descent.{Steps, turn♯}
+use Rattle.secondary_update.specs.Insert.{Steps, turn♯}
 use Rattle.secondary_update.specs.Insert.{split♯, split_name, insert♯, auxiliary_insert♯}
-use Rattle.nodes.specs.Weights.{unbalances}
 use Rattle.primary_build.specs.Build.{Freshly, main_rebuild♯}
 
 -- the auxiliary tree of that node: the leaf's slot k alone, and then the mark's slot too
@@ -44,34 +42,19 @@ MainInsertion = ℕ → ℕ → List ℕ → After ℕ
 abbrev pub grow♯ : ℕ → Mark → ℕ → ℕ → ℕ → ℕ → Arm → List ℕ → After ℕ
 grow♯ capacity m s base name at a xs = auxiliary_insert♯ base capacity m s name (put_arm xs at (grown_arm a m.x m.grade))
 
--- on to the child, where the auxiliary tree was not damaged
-abbrev pub insert_on : MainInsertion → ℕ → ℕ → After ℕ → After ℕ
-insert_on rec base at p = if eqb p.out damaged then after damaged p.words else rec base at p.words
-
-abbrev pub main_insert_child : MainInsertion → ℕ → Mark → ℕ → ℕ → ℕ → Way → ℕ → Arm → List ℕ → After ℕ
-main_insert_child rec capacity m s base name v at a xs =
-    if unbalances true v.child.weight v.sibling.weight then main_afresh♯ capacity m s base at xs
-    else insert_on rec (deeper base capacity) (child_at (main_place name) v.left) (grow♯ capacity m s base name at a xs)
-
--- children whose weights are not the node's are damage
-abbrev pub main_insert_way : MainInsertion → ℕ → Mark → ℕ → ℕ → ℕ → Way → ℕ → Arm → List ℕ → After ℕ
-main_insert_way rec capacity m s base name v at a xs =
-    if not (eqb (v.child.weight + v.sibling.weight) a.weight) then after damaged xs
-    else main_insert_child rec capacity m s base name v at a xs
-
--- a node of no slot is damage
-abbrev pub main_insert_arm : MainInsertion → ℕ → Mark → ℕ → ℕ → ℕ → Arm → List ℕ → After ℕ
-main_insert_arm rec capacity m s base at a xs =
-    if leb capacity (a.node / 2) then after damaged xs
-    else (if eqb (a.node % 2) 0 then main_leaf♯ capacity m s base at a xs
-    else main_insert_way rec capacity m s base (a.node / 2) (way_at along_x main_place m (a.node / 2) xs) at a xs)
-
-abbrev pub main_insert_node : MainInsertion → ℕ → Mark → ℕ → MainInsertion
-main_insert_node rec capacity m s base at xs = main_insert_arm rec capacity m s base at (arm_at xs at) xs
+-- what is done beside the arms and the records of the main tree
+abbrev pub main_steps : MainInsertion → ℕ → Mark → ℕ → ℕ → Steps
+main_steps rec capacity m s base = record {
+  grow = λ name xs. auxiliary_insert♯ base capacity m s name xs;
+  begin = λ made k xs. pair_auxiliary capacity m s base made k xs;
+  mend = main_afresh♯ capacity m s base;
+  onward = rec (deeper base capacity);
+}
 
 unfoldable pub insert_beneath♯ : ℕ → ℕ → Mark → ℕ → MainInsertion
 insert_beneath♯ zero capacity m s base at xs = after damaged xs
-insert_beneath♯ (suc f) capacity m s base at xs = main_insert_node (insert_beneath♯ f capacity m s) capacity m s base at xs
+insert_beneath♯ (suc f) capacity m s base at xs =
+    turn♯ along_x capacity main_place true m s (main_steps (insert_beneath♯ f capacity m s) capacity m s base) at xs
 
 pub insert_beneath♯-zero : (f : ℕ) → f ≡ 0 → (capacity : ℕ) (m : Mark) (s base at : ℕ) (xs : List ℕ)
     → insert_beneath♯ f capacity m s base at xs ≡ after damaged xs
@@ -79,22 +62,15 @@ unfolding insert_beneath♯
 insert_beneath♯-zero f e capacity m s base at xs = rw e
 
 pub insert_beneath♯-suc : (f : ℕ) → (f ≡ 0 → ⊥) → (capacity : ℕ) (m : Mark) (s base at : ℕ) (xs : List ℕ)
-    → insert_beneath♯ f capacity m s base at xs ≡ main_insert_node (insert_beneath♯ (f - 1) capacity m s) capacity m s base at xs
+    → insert_beneath♯ f capacity m s base at xs
+    ≡ turn♯ along_x capacity main_place true m s (main_steps (insert_beneath♯ (f - 1) capacity m s) capacity m s base) at xs
 unfolding insert_beneath♯
 insert_beneath♯-suc zero h capacity m s base at xs = absurd (h refl)
 insert_beneath♯-suc (suc f) h capacity m s base at xs = let e : suc f - 1 ≡ f = omega arith in rw e
 
--- what is done beside the arms and the records of the main tree
-abbrev pub main_steps : ℕ → ℕ → Mark → ℕ → ℕ → Steps
-main_steps capacity base m s turns = record {
-  grow = λ name xs. auxiliary_insert♯ base capacity m s name xs;
-  begin = λ made k xs. pair_auxiliary capacity m s base made k xs;
-  mend = λ at xs. main_afresh♯ capacity m s base at xs;
-  onward = λ at xs. insert_beneath♯ turns capacity m s (deeper base capacity) at xs;
-}
-
 pub main-turns : (capacity base : ℕ) (m : Mark) (s turns at : ℕ) (xs : List ℕ)
-    → insert_beneath♯ (suc turns) capacity m s base at xs ≡ turn♯ along_x capacity main_place true m s (main_steps capacity base m s turns) at xs
+    → insert_beneath♯ (suc turns) capacity m s base at xs
+    ≡ turn♯ along_x capacity main_place true m s (main_steps (insert_beneath♯ turns capacity m s) capacity m s base) at xs
 unfolding insert_beneath♯
 main-turns capacity base m s turns at xs = refl
 

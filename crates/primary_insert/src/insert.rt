@@ -25,7 +25,8 @@ struct Depth {
 impl Insertion<Primary> for Depth {
     ghost tree = { λ depth. record { capacity = depth.level.capacity } };
 
-    ghost steps = { λ depth. main_steps depth.level.capacity depth.level.base };
+    ghost steps = { λ depth m s turns.
+        main_steps (insert_beneath♯ turns depth.level.capacity m s) depth.level.capacity m s depth.level.base };
 
     ghost rest = { λ depth m s turns. insert_beneath♯ turns depth.level.capacity m s depth.level.base };
 

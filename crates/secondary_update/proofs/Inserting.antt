@@ -42,7 +42,7 @@ use Rattle.nodes.proofs.Collecting.{every-slot}
 use Rattle.secondary_build.specs.Build.{rebuild♯}
 use Rattle.secondary_build.proofs.Building.{rebuild-holds}
 use Rattle.secondary_update.specs.Insert.{node_at, split♯, put_fresh, rebuilt_at, afresh♯}
-use Rattle.secondary_update.specs.Insert.{Insertion, insert_afresh, insert_child, insert_way, insert_arm, insert_node, insert♯}
+use Rattle.secondary_update.specs.Insert.{Insertion, insert_afresh, child♯, tree_steps, insert♯}
 use Rattle.secondary_update.proofs.Mending.{mended, figure, MayMend}
 use Rattle.secondary_update.proofs.Steps.{not-mending}
 use Rattle.secondary_update.proofs.Mended.{mended-marks, mended-times, mended-weight, mended-least, may_mend-left, may_mend-right}
@@ -432,9 +432,9 @@ module _ {I : Type 0} (A : Axis Mark Box) (f : ℕ → Mark) (R : Register ℕ B
 
       -- the mirror at a node, and its way to either child
       insert♯-node : (fuel : ℕ) (mends : Bool) → insert♯ A (suc fuel) C place (f s) s mends at xs
-          ≡ insert_child A (insert♯ A fuel C place (f s) s) C place (f s) (least r)
-          (way_of (arms (arm_of A f l) (arm_of A f r)) (A.below (f s) (f (least r)))) mends at (arm_of A f (node i l r)) xs
-      unfolding insert♯ insert_node insert_arm insert_way way_at
+          ≡ child♯ A C place mends (f s) s (tree_steps A (insert♯ A fuel C place (f s) s) C place mends) (least r)
+          (way_of (arms (arm_of A f l) (arm_of A f r)) (A.below (f s) (f (least r)))) at (arm_of A f (node i l r)) xs
+      unfolding insert♯ way_at
       insert♯-node fuel mends =
           let odd : ((2 * least r + 1) % 2 ≡ 0 → ⊥) = omega arith in
           let half : (2 * least r + 1) / 2 ≡ least r = omega arith in
@@ -455,26 +455,27 @@ module _ {I : Type 0} (A : Axis Mark Box) (f : ℕ → Mark) (R : Register ℕ B
       module _ (rec : Insertion) where
         abbrev Onward : Bool → Bool → After ℕ
         Onward left mends =
-            insert_child A rec C place (f s) (least r) (way_of (arms (arm_of A f l) (arm_of A f r)) left) mends at (arm_of A f (node i l r)) xs
+            child♯ A C place mends (f s) s (tree_steps A rec C place mends) (least r) (way_of (arms (arm_of A f l) (arm_of A f r)) left) at
+            (arm_of A f (node i l r)) xs
 
         way-left : (mends : Bool) → Steady X R here (grow l) r mends → Onward true mends ≡ rec mends (place (least r)) widened
-        unfolding insert_child way_of child_at
+        unfolding way_of child_at
         way-left true t = rw (unbalances-even (weight l) (weight r) (weight (grow l)) (insert-weight X R s l) (t refl))
         way-left false t = rw (not-mending (weight l) (weight r))
 
         way-right : (mends : Bool) → Steady X R here l (grow r) mends → Onward false mends ≡ rec mends (place (least r) + arm_width) widened
-        unfolding insert_child way_of child_at
+        unfolding way_of child_at
         way-right true t =
             let even = balanced-swap (weight (grow r)) (weight l) ∙ t refl in
             rw (unbalances-even (weight r) (weight l) (weight (grow r)) (insert-weight X R s r) even)
         way-right false t = rw (not-mending (weight r) (weight l))
 
         afresh-left : Balanced (node i l r) → evenly (grow l) r ≡ false → Onward true true ≡ insert_afresh A rec C place at xs
-        unfolding insert_child way_of
+        unfolding way_of
         afresh-left b u = rw (unbalances-uneven (weight l) (weight r) (weight (grow l)) b.0 (insert-weight X R s l) u)
 
         afresh-right : Balanced (node i l r) → evenly l (grow r) ≡ false → Onward false true ≡ insert_afresh A rec C place at xs
-        unfolding insert_child way_of
+        unfolding way_of
         afresh-right b u =
             let uneven = balanced-swap (weight (grow r)) (weight l) ∙ u in
             rw (unbalances-uneven (weight r) (weight l) (weight (grow r)) (omega (arith, b.1)) (insert-weight X R s r) uneven)
@@ -512,7 +513,7 @@ module _ {I : Type 0} (A : Axis Mark Box) (f : ℕ → Mark) (R : Register ℕ B
         → depth t + indicator mends < fuel → depth t + 1 < 40 → MayMend mends t
         → LeavesAt A f place C at xs (insert♯ A fuel C place (f s) s mends at xs).words (mended (slot_axis f A) R mends (insert_leaf (slot_axis f A) R s t))
         × ((insert♯ A fuel C place (f s) s mends at xs).out ≡ figure mends (insert_leaf (slot_axis f A) R s t))
-    unfolding insert♯ insert_node insert_arm
+    unfolding insert♯
     insert-holds K zero t mends at xs k n d b = absurd (omega arith)
     insert-holds K (suc fuel) (leaf q) mends at xs k n d b =
         let even : 2 * q % 2 ≡ 0 = omega arith in

@@ -1,6 +1,6 @@
 -- The mirror of the insertion, along any axis. Assumes nothing.
-use Rattle.std.specs.Prelude.{ℕ, zero, suc, ◌+◌, ◌-◌, ◌/◌, ◌%◌, ◌≤◌, ◌<◌, ◌^◌, ◌≡◌}
-use Rattle.std.specs.Prelude.{refl, Bool, true, false, not, List, leb, ltb, eqb, length, if◌then◌else◌}
+use Rattle.std.specs.Prelude.{refl, ℕ, zero, suc, ◌+◌, ◌-◌, ◌/◌, ◌%◌, ◌≤◌, ◌<◌, ◌^◌, ◌≡◌}
+use Rattle.std.specs.Prelude.{Bool, true, false, not, List, leb, ltb, eqb, length, if◌then◌else◌}
 use Rattle.std.proofs.Common.{arith}
 use Rattle.model.specs.Axis.{Axis}
 use Rattle.model.specs.Sheet.{Mark, Box, along_y}
@@ -43,30 +43,52 @@ Insertion = Bool → ℕ → List ℕ → After ℕ
 unfoldable pub insert_afresh : Axis Mark Box → Insertion → ℕ → (ℕ → ℕ) → ℕ → List ℕ → After ℕ
 insert_afresh A rec capacity place at xs = let p : After ℕ = rec false at xs in afresh♯ A capacity place at p.out p.words
 
-unfoldable pub insert_child : Axis Mark Box → Insertion → ℕ → (ℕ → ℕ) → Mark → ℕ → Way → Bool → ℕ → Arm → List ℕ → After ℕ
-insert_child A rec capacity place m name v mends at a xs =
-    if unbalances mends v.child.weight v.sibling.weight then insert_afresh A rec capacity place at xs
-    else rec mends (child_at (place name) v.left) (put_arm xs at (grown_arm a (A.at m) m.grade))
+-- What an insertion does beside the arms and the records: with what the node of a name carries, on the way; with what a node of a name carries that was made of
+-- the leaf of a slot; at the arm of a node that is mended; and, from the arm of a child on, beneath.
+pub record Steps : Type 0 where
+  pub grow : ℕ → List ℕ → After ℕ
+  pub begin : ℕ → ℕ → List ℕ → After ℕ
+  pub mend : ℕ → List ℕ → After ℕ
+  pub onward : ℕ → List ℕ → After ℕ
 
--- children whose weights are not the node's are damage
-unfoldable pub insert_way : Axis Mark Box → Insertion → ℕ → (ℕ → ℕ) → Mark → ℕ → Way → Bool → ℕ → Arm → List ℕ → After ℕ
-insert_way A rec capacity place m name v mends at a xs =
-    if not (eqb (v.child.weight + v.sibling.weight) a.weight) then after damaged xs
-    else insert_child A rec capacity place m name v mends at a xs
+-- a turn on the way of an insertion, whatever tree it is into
+module _ (A : Axis Mark Box) (capacity : ℕ) (place : ℕ → ℕ) (mends : Bool) (m : Mark) (s : ℕ) (S : Steps) where
+  -- on to the child, where what was done is no damage
+  abbrev pub onward♯ : ℕ → After ℕ → After ℕ
+  onward♯ at p = if eqb p.out damaged then after damaged p.words else S.onward at p.words
 
--- a node of no slot is damage
-unfoldable pub insert_arm : Axis Mark Box → Insertion → ℕ → (ℕ → ℕ) → Mark → ℕ → Bool → ℕ → Arm → List ℕ → After ℕ
-insert_arm A rec capacity place m s mends at a xs =
-    if leb capacity (a.node / 2) then after damaged xs
-    else (if eqb (a.node % 2) 0 then after 0 (split♯ A place m s at a xs)
-    else insert_way A rec capacity place m (a.node / 2) (way_at A place m (a.node / 2) xs) mends at a xs)
+  abbrev pub child♯ : ℕ → Way → ℕ → Arm → List ℕ → After ℕ
+  child♯ name v at a xs =
+      if unbalances mends v.child.weight v.sibling.weight then S.mend at xs
+      else onward♯ (child_at (place name) v.left) (S.grow name (put_arm xs at (grown_arm a (A.at m) m.grade)))
 
-unfoldable pub insert_node : Axis Mark Box → Insertion → ℕ → (ℕ → ℕ) → Mark → ℕ → Insertion
-insert_node A rec capacity place m s mends at xs = insert_arm A rec capacity place m s mends at (arm_at xs at) xs
+  -- children whose weights are not the node's are damage
+  abbrev pub fork♯ : ℕ → Way → ℕ → Arm → List ℕ → After ℕ
+  fork♯ name v at a xs = if not (eqb (v.child.weight + v.sibling.weight) a.weight) then after damaged xs else child♯ name v at a xs
+
+  -- a node of no slot is damage
+  abbrev pub arm♯ : ℕ → Arm → List ℕ → After ℕ
+  arm♯ at a xs =
+      if leb capacity (a.node / 2) then after damaged xs
+      else (if eqb (a.node % 2) 0 then S.begin (split_name A m s a xs) (a.node / 2) (split♯ A place m s at a xs)
+      else fork♯ (a.node / 2) (way_at A place m (a.node / 2) xs) at a xs)
+
+  abbrev pub turn♯ : ℕ → List ℕ → After ℕ
+  turn♯ at xs = arm♯ at (arm_at xs at) xs
+
+-- in a tree by itself, whose nodes carry nothing
+abbrev pub tree_steps : Axis Mark Box → Insertion → ℕ → (ℕ → ℕ) → Bool → Steps
+tree_steps A rec capacity place mends = record {
+  grow = λ name xs. after 0 xs;
+  begin = λ made k xs. after 0 xs;
+  mend = insert_afresh A rec capacity place;
+  onward = rec mends;
+}
 
 unfoldable pub insert♯ : Axis Mark Box → ℕ → ℕ → (ℕ → ℕ) → Mark → ℕ → Insertion
 insert♯ A zero capacity place m s mends at xs = after damaged xs
-insert♯ A (suc f) capacity place m s mends at xs = insert_node A (insert♯ A f capacity place m s) capacity place m s mends at xs
+insert♯ A (suc f) capacity place m s mends at xs =
+    turn♯ A capacity place mends m s (tree_steps A (insert♯ A f capacity place m s) capacity place mends) at xs
 
 pub insert♯-zero : (f : ℕ) → f ≡ 0
     → (A : Axis Mark Box) (capacity : ℕ) (place : ℕ → ℕ) (m : Mark) (s : ℕ) (mends : Bool) (at : ℕ) (xs : List ℕ)
@@ -76,10 +98,32 @@ insert♯-zero f e A capacity place m s mends at xs = rw e
 
 pub insert♯-suc : (f : ℕ) → (f ≡ 0 → ⊥)
     → (A : Axis Mark Box) (capacity : ℕ) (place : ℕ → ℕ) (m : Mark) (s : ℕ) (mends : Bool) (at : ℕ) (xs : List ℕ)
-    → insert♯ A f capacity place m s mends at xs ≡ insert_node A (insert♯ A (f - 1) capacity place m s) capacity place m s mends at xs
+    → insert♯ A f capacity place m s mends at xs
+    ≡ turn♯ A capacity place mends m s (tree_steps A (insert♯ A (f - 1) capacity place m s) capacity place mends) at xs
 unfolding insert♯
 insert♯-suc zero h A capacity place m s mends at xs = absurd (h refl)
 insert♯-suc (suc f) h A capacity place m s mends at xs = let e : suc f - 1 ≡ f = omega arith in rw e
+
+module _ (A : Axis Mark Box) (capacity : ℕ) (place : ℕ → ℕ) (m : Mark) (s turns : ℕ) where
+  abbrev pub mending_steps : Steps
+  mending_steps = tree_steps A (insert♯ A turns capacity place m s) capacity place true
+
+  -- nothing is mended
+  abbrev pub alone_steps : Steps
+  alone_steps = record {
+    grow = λ name xs. after 0 xs;
+    begin = λ made k xs. after 0 xs;
+    mend = λ at xs. after damaged xs;
+    onward = insert♯ A turns capacity place m s false;
+  }
+
+  pub mending-turns : (at : ℕ) (xs : List ℕ) → insert♯ A (suc turns) capacity place m s true at xs ≡ turn♯ A capacity place true m s mending_steps at xs
+  unfolding insert♯
+  mending-turns at xs = refl
+
+  pub alone-turns : (at : ℕ) (xs : List ℕ) → insert♯ A (suc turns) capacity place m s false at xs ≡ turn♯ A capacity place false m s alone_steps at xs
+  unfolding insert♯ unbalances
+  alone-turns at xs = refl
 
 -- the arm at the word `at`, the slots and the runs of a table of that capacity, and the records of a tree, up to their end, are there
 abbrev pub There : ℕ → ℕ → ℕ → List ℕ → Type 0

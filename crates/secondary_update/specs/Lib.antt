@@ -3,5 +3,4 @@
 pub mod Updates
 pub mod Values
 pub mod Insert
-pub mod Descent
 pub mod Strike

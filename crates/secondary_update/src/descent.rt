@@ -1,4 +1,4 @@
-// The way of an insertion down from an arm, for every tree that a mark is put into: each arm on the way is written once, before its node's children are looked at.
+// The way of an insertion down from an arm, whatever tree the mark is put into. Each arm on the way is written once, before the next is looked at.
 ghost use Rattle.std.specs.Prelude.{◌≡◌, ℕ, suc, Bool, List, ◌-◌, ◌<◌, ◌≤◌, length, IfOk};
 ghost use Rattle.model.specs.Sheet.{Mark as MarkValue};
 ghost use Rattle.geometry.specs.Values.{mark_value};
@@ -6,8 +6,7 @@ ghost use Rattle.table.specs.After.{After, after};
 ghost use Rattle.table.specs.Damage.{figure_of};
 ghost use Rattle.table.specs.Layout.{runs_end};
 ghost use Rattle.table.specs.Limits.{damaged, deepest};
-ghost use Rattle.secondary_update.specs.Insert.{There};
-ghost use Rattle.secondary_update.specs.Descent.{Steps, turn♯};
+ghost use Rattle.secondary_update.specs.Insert.{Steps, turn♯, There};
 
 use crate::insert::split;
 use geometry::{Axis, Mark};
@@ -67,8 +66,8 @@ pub trait Insertion<T: Tree>: Copy {
         ≡ turn♯ T.Along.along (T.capacity (tree i)) (T.place (tree i)) MENDS m s (steps i m s turns) at xs };
 }
 
-// Inserts the mark m of slot s beneath the arm at the word `start`, from the turn `first` of the way on; gives the weight of the node built afresh, or 0. A node
-// of no slot is damage.
+// Inserts the mark m of slot s beneath the arm at the word `start`, from the turn `first` of the way on; gives the weight of the node built afresh, or 0. A
+// node of no slot is damage.
 pub fn descend<T: Tree, I: Insertion<T>>(
     t: &mut [u32],
     from: I,

@@ -8,7 +8,7 @@ ghost use Rattle.table.specs.Layout.{record_place, runs_end};
 ghost use Rattle.table.specs.Limits.{deepest};
 ghost use Rattle.nodes.specs.Values.{arm_value};
 ghost use Rattle.secondary_update.specs.Insert.{split♯, split_name, There, insert♯, auxiliary_insert♯, insert♯-zero};
-ghost use Rattle.secondary_update.specs.Descent.{mending_steps, alone_steps, mending-turns, alone-turns};
+ghost use Rattle.secondary_update.specs.Insert.{mending_steps, alone_steps, mending-turns, alone-turns};
 
 use crate::descent::{Insertion, descend};
 use geometry::{Axis, Mark};

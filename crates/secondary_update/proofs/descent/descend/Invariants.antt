@@ -1,5 +1,5 @@
--- The loop keeps: as many words; the tree and the most that is built afresh are those of the beginning; the arm at the word `at` is there; the insertion that is
--- left, from here and `at` on with the turns that are left, is the whole one.
+-- The loop keeps: as many words; the tree and the most that is built afresh are those of the beginning; the arm at the word `at` is there; the insertion that
+-- is left, from here and `at` on with the turns that are left, is the whole one.
 use Rattle.std.proofs.Common.{◌≡◌, ◌+◌, ◌-◌, ◌<◌, ◌≤◌, ◌^◌, length}
 use Rattle.geometry.specs.Values.{mark_value}
 use Rattle.table.specs.Layout.{arm_width}
