@@ -11,3 +11,4 @@ pub mod Without
 pub mod Turns
 pub mod Collecting
 pub mod Steps
+pub mod Ways

@@ -65,25 +65,17 @@ impl<T: Tree> Record<T> {
     }
 
     // The way of the mark m at the inner node of that name, whose words are there.
-    #[tactic(auto, unfolding(crate::specs::Arms::way_of, crate::specs::Ways::way_at))]
     pub fn way(t: &[u32], tree: T, name: u32, m: Mark) -> Way<T>
         requires { (slot_place name + mark_width ≤ length t.now) × (T.place tree name + record_width ≤ length t.now) }
         ensures { way_value result ≡ way_at T.Along.along (T.place tree) (mark_value m) name t.now }
     {
-        let p = Record::load(t, tree, name);
-        let l = p.left;
-        let r = p.right;
-        if T::Along::below(m, slots::load(t, name)) {
-            return Way {
-                left: true,
-                child: l,
-                sibling: r,
-            };
-        }
+        let left = T::Along::below(m, slots::load(t, name));
+        let child = Arm::load(t, Record::child(tree, name, left));
+        let sibling = Arm::load(t, Record::child(tree, name, !left));
         Way {
-            left: false,
-            child: r,
-            sibling: l,
+            left,
+            child,
+            sibling,
         }
     }
 

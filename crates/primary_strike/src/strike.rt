@@ -60,12 +60,17 @@ impl Striking for Depth {
     }
 
     #[inline]
-    fn strike_beside(self, t: &mut [u32], name: u32, x: &Target) -> Result<Arm<Secondary>, Damaged>
+    fn strike_beside(
+        self,
+        t: &mut [u32],
+        name: u32,
+        target: &Target,
+    ) -> Result<Arm<Secondary>, Damaged>
         requires { (name < self.level.capacity) × Lent self.level.capacity (runs_end self.level.capacity) t.old }
         ensures { after (written_if (λ a. main_node_over (Some (arm_value a))) result) t.new
-            ≡ main_beside self.level.capacity main_place (mark_value x.now.mark) x.now.slot self.level.base name t.old }
+            ≡ main_beside self.level.capacity main_place (mark_value target.now.mark) target.now.slot self.level.base name t.old }
     {
-        let u = secondary_update::strike::strike(t, self.level, name, x.mark, x.slot)?;
+        let u = secondary_update::strike::strike(t, self.level, name, target.mark, target.slot)?;
         Ok(u.arm)
     }
 
@@ -144,8 +149,8 @@ pub fn strike(t: &mut [u32], capacity: u32, m: Mark, s: u32) -> Result<u32, Dama
             capacity,
         },
     };
-    let x = Target { mark: m, slot: s };
-    let u = walk::strike_beneath(t, top, root.node, root.weight, &x, limits::DEEPEST)?;
+    let target = Target { mark: m, slot: s };
+    let u = walk::strike_beneath(t, top, root.node, root.weight, &target, limits::DEEPEST)?;
     if u.arm.weight == 0 {
         return Err(Damaged);
     }

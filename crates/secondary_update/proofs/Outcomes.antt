@@ -11,11 +11,11 @@ use Rattle.secondary_update.specs.Values.{struck_value, strike_outcome}
 use Rattle.secondary_update.specs.declared.walk.Struck.{Struck}
 
 module _ {T : Type 0} where
-  pub outcome-unwrap_or : (u : Result (Struck T) Damaged) (v : Struck T) (a : Arm T) → arm_value a ≡ no_arm
+  pub outcome_unwrap_or : (u : Result (Struck T) Damaged) (v : Struck T) (a : Arm T) → arm_value a ≡ no_arm
       → v ≡ result_unwrap_or u (record { arm = a; rebuilt = 0; first = 0 }) → strike_outcome u ≡ struck_value v
-  outcome-unwrap_or (Ok u) v a none e = rw e
-  outcome-unwrap_or (Err x) v a none e = rw (e, none)
+  outcome_unwrap_or (Ok u) v a none e = rw e
+  outcome_unwrap_or (Err x) v a none e = rw (e, none)
 
-  pub rebuilt-unwrap_or : (r : Result (Arm T) Damaged) (b a : Arm T) → arm_value a ≡ no_arm → b ≡ result_unwrap_or r a → rebuilt_arm r ≡ arm_value b
-  rebuilt-unwrap_or (Ok x) b a none e = rw e
-  rebuilt-unwrap_or (Err x) b a none e = rw (e, none)
+  pub rebuilt_unwrap_or : (r : Result (Arm T) Damaged) (b a : Arm T) → arm_value a ≡ no_arm → b ≡ result_unwrap_or r a → rebuilt_arm r ≡ arm_value b
+  rebuilt_unwrap_or (Ok x) b a none e = rw e
+  rebuilt_unwrap_or (Err x) b a none e = rw (e, none)

@@ -20,7 +20,7 @@ use nodes::weights;
 use table::damage::Damaged;
 use table::{limits, runs};
 
-#[tactic(auto, unfolding(crate::specs::Strike::node_over, crate::specs::Strike::strike_afresh, crate::specs::Strike::fresh_strike, crate::specs::Updates::strike_of))]
+#[tactic(auto, unfolding(crate::specs::Strike::node_over, crate::specs::Updates::strike_of))]
 impl Striking for Secondary {
     type Of = Secondary;
 
@@ -45,7 +45,7 @@ impl Striking for Secondary {
     }
 
     #[inline]
-    fn strike_beside(self, t: &mut [u32], name: u32, x: &Target) -> Result<(), Damaged> {
+    fn strike_beside(self, t: &mut [u32], name: u32, target: &Target) -> Result<(), Damaged> {
         Ok(())
     }
 
@@ -86,6 +86,7 @@ impl Striking for Secondary {
     }
 
     // Where the words hold no such tree, none is left.
+    #[tactic(auto, using(crate::proofs::Outcomes::rebuilt_unwrap_or), unfolding(crate::specs::Strike::strike_afresh, crate::specs::Strike::fresh_strike, crate::specs::Updates::strike_of))]
     fn afresh(
         self,
         t: &mut [u32],
@@ -122,8 +123,8 @@ pub fn strike(
         return Err(Damaged);
     }
     let root = Primary::load_auxiliary(t, owner);
-    let x = Target { mark: m, slot: s };
-    let u = walk::strike_beneath(t, tree, root.node, root.weight, &x, limits::DEEPEST)?;
+    let target = Target { mark: m, slot: s };
+    let u = walk::strike_beneath(t, tree, root.node, root.weight, &target, limits::DEEPEST)?;
     if u.arm.weight == 0 {
         return Err(Damaged);
     }

@@ -55,10 +55,15 @@ pub trait Striking: Copy {
         ensures same { tree result ≡ tree self };
 
     // Strikes from what the node of that name has beside its children.
-    fn strike_beside(self, t: &mut [u32], name: u32, x: &Target) -> Result<Self::Beside, Damaged>
+    fn strike_beside(
+        self,
+        t: &mut [u32],
+        name: u32,
+        target: &Target,
+    ) -> Result<Self::Beside, Damaged>
         requires { (name < Self.Of.capacity (tree self)) × Lent (Self.Of.capacity (tree self)) (Self.Of.end (tree self)) t.old }
         ensures { after (written_if (writing self) result) t.new
-            ≡ how.beside (Self.Of.capacity (tree self)) (Self.Of.place (tree self)) (mark_value x.now.mark) x.now.slot (base self) name t.old };
+            ≡ how.beside (Self.Of.capacity (tree self)) (Self.Of.place (tree self)) (mark_value target.now.mark) target.now.slot (base self) name t.old };
 
     // Writes the node of that name over l and r.
     fn write(
@@ -95,7 +100,7 @@ pub trait Striking: Copy {
 // Writes the node over what the strike left of the child on the mark's way, which is to have lost one mark, and the other child. Damage leaves no tree; but
 // none is to be left of a child to which damaged words give one mark, so the weight tells.
 #[inline]
-#[tactic(auto, unfolding(crate::specs::Strike::strike_over))]
+#[tactic(auto, using(crate::proofs::Outcomes::outcome_unwrap_or), unfolding(crate::specs::Strike::strike_over))]
 fn strike_over<S: Striking>(
     t: &mut [u32],
     here: S,
@@ -157,12 +162,12 @@ pub fn strike_beneath<S: Striking>(
     here: S,
     node: Node<S::Of>,
     weight: u32,
-    x: &Target,
+    target: &Target,
     fuel: u32,
 ) -> Result<Struck<S::Of>, Damaged>
     requires { Lent (S.Of.capacity (S.tree here)) (S.Of.end (S.tree here)) t.old }
     ensures { after (strike_outcome result) t.new
-        ≡ strike_beneath♯ S.Of.Along.along S.how (S.Of.capacity (S.tree here)) (S.Of.place (S.tree here)) (mark_value x.now.mark) x.now.slot fuel
+        ≡ strike_beneath♯ S.Of.Along.along S.how (S.Of.capacity (S.tree here)) (S.Of.place (S.tree here)) (mark_value target.now.mark) target.now.slot fuel
         (S.base here) weight node.0 t.old }
 {
     if fuel == 0 {
@@ -174,16 +179,16 @@ pub fn strike_beneath<S: Striking>(
     if capacity <= name {
         return Err(Damaged);
     }
-    let v = Record::way(t, tree, name, x.mark);
+    let v = Record::way(t, tree, name, target.mark);
     let child = v.child;
     let sibling = v.sibling;
     if weights::disagree(child.weight, sibling.weight, weight) {
         return Err(Damaged);
     }
     if weights::stays_balanced(child.weight, sibling.weight) {
-        let beside = here.strike_beside(t, name, x);
-        let u = strike_beneath(t, here.deeper(), child.node, child.weight, x, fuel - 1);
-        return strike_over(t, here, beside, name, x.slot, v, u);
+        let beside = here.strike_beside(t, name, target);
+        let u = strike_beneath(t, here.deeper(), child.node, child.weight, target, fuel - 1);
+        return strike_over(t, here, beside, name, target.slot, v, u);
     }
-    strike_here(t, here, node, weight, name, v, x.slot)
+    strike_here(t, here, node, weight, name, v, target.slot)
 }
