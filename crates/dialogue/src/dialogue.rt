@@ -1,6 +1,6 @@
 // A dialogue byte by byte: the open line is gathered, and performed when a line feed or the end of the input ends it. The responses are gathered one behind
 // the other, as long as there is room for one more.
-ghost use Rattle.std.specs.Prelude.{◌≡◌, ◌↔◌, IsTrue, List, ℕ};
+ghost use Rattle.std.specs.Prelude.{◌≡◌, List, ℕ};
 ghost use Rattle.dialogue.specs.Responding.{Room};
 
 use lines::command::Command;
@@ -29,9 +29,9 @@ impl<'a> Dialogue<'a> {
     ghost use Rattle.lines.specs.Writing.{text_in, Wrote};
     ghost use Rattle.dialogue.specs.Responding.{Answered, Does};
     ghost use Rattle.dialogue.specs.Dialogue.{RespondsOpen, Fed, Ended, Batched};
-    ghost use Rattle.dialogue.specs.Values.{lent_of, held_by, HasRoom, Opens, Keeps, Gathers};
+    ghost use Rattle.dialogue.specs.Values.{lent_of, held_by, Opens, Keeps, Gathers};
 
-    // On words that hold a table.
+    // On words that hold a table. The bytes have room for one response, so that every batch takes a byte (`Batched.some`).
     pub fn new(
         table: &'a mut [u32],
         first: &'a mut [u32],
@@ -59,14 +59,6 @@ impl<'a> Dialogue<'a> {
         ensures { result.now ≡ text_in self.now.responses }
     {
         self.responses.text()
-    }
-
-    // Whether there is room for the longest response: a first line, and 44 bytes for each mark of four words.
-    #[inline]
-    pub fn has_room(&self) -> bool
-        ensures { IsTrue result ↔ HasRoom self.now }
-    {
-        46 + 11 * self.first.len() <= self.responses.room()
     }
 
     // Makes the call of a command, and gathers the response of an accepted one.
@@ -147,15 +139,17 @@ impl<'a> Dialogue<'a> {
         }
     }
 
-    // Feeds bytes up to the chunk's end, or until there is no room for one more response; gives how many.
+    // Feeds bytes up to the chunk's end, or until the room left is less than the longest response may need; gives how many.
     pub fn feed_some(&mut self, chunk: &[u8]) -> usize
         ensures keeps { Keeps self.old self.new }
         ensures fed { Batched (held_by self.old) chunk.now result (held_by self.new)
             self.new.responses.bytes.now self.new.responses.len }
     {
+        // A first line, and 44 bytes for each mark of four words.
+        let longest = 46 + 11 * self.first.len();
         self.responses.clear();
         for (used, byte) in chunk.iter().enumerate() {
-            if !self.has_room() {
+            if self.responses.room() < longest {
                 return used;
             }
             self.feed(*byte);

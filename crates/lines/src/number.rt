@@ -1,4 +1,4 @@
-// Numbers in decimal, read off a line.
+// Numbers in decimal, read off a line. (`str::parse` would take a plus sign and needless zeros too.)
 ghost use Rattle.std.specs.Prelude.{◌≡◌};
 ghost use Rattle.lines.specs.Reading.{read_on♯, read_number♯, read_field♯};
 ghost use Rattle.lines.specs.Values.{number_value};

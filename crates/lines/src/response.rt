@@ -1,12 +1,12 @@
 // What is printed for lines (document 01, "The planner and the line program"), gathered in lent bytes.
-ghost use Rattle.std.specs.Prelude.{◌≡◌, ◌+◌, ◌-◌, ◌*◌, ◌≤◌, length};
+ghost use Rattle.std.specs.Prelude.{◌≡◌, [], ◌∷◌, ◌+◌, ◌-◌, ◌*◌, ◌≤◌, length};
 ghost use Rattle.geometry.specs.Values.{mark_value};
 ghost use Rattle.table.specs.Marks.{list_marks};
 ghost use Rattle.lines.specs.Text.{digits, fields};
 ghost use Rattle.lines.specs.Responses.{answer_line, refusal_line, mark_line, mark_lines};
 
 use geometry::Mark;
-use itoa::Buffer;
+use itoa::write_digits;
 use table::slots;
 
 // Responses one behind the other. The bytes are lent, since nothing here takes memory; what finds no room in them is left out.
@@ -47,6 +47,15 @@ impl<'a> Responses<'a> {
         self.len = 0;
     }
 
+    fn push(&mut self, byte: u8)
+        ensures { Wrote (byte ∷ []) self.old self.new }
+    {
+        if self.len < self.bytes.len() {
+            self.bytes[self.len] = byte;
+            self.len += 1;
+        }
+    }
+
     fn put(&mut self, text: &[u8])
         ensures { Wrote text.now self.old self.new }
     {
@@ -55,10 +64,13 @@ impl<'a> Responses<'a> {
         self.len += fits;
     }
 
+    // In decimal: a word has at most ten digits.
     fn put_number(&mut self, n: u32)
         ensures { Wrote (digits n) self.old self.new }
     {
-        self.put(Buffer::new().format(n).as_bytes());
+        let mut digits = [0; 10];
+        let start = write_digits(u64::from(n), &mut digits, 10);
+        self.put(&digits[start..]);
     }
 
     // Numbers, a comma before each.
@@ -66,7 +78,7 @@ impl<'a> Responses<'a> {
         ensures { Wrote (fields numbers.now) self.old self.new }
     {
         for n in numbers {
-            self.put(b",");
+            self.push(b',');
             self.put_number(*n);
         }
     }
@@ -76,9 +88,9 @@ impl<'a> Responses<'a> {
         ensures wrote { Wrote (answer_line letter figures.now) self.old self.new }
         ensures short { length (answer_line letter figures.now) ≤ 2 + 11 * length figures.now }
     {
-        self.put(&[letter]);
+        self.push(letter);
         self.put_fields(figures);
-        self.put(b"\n");
+        self.push(b'\n');
     }
 
     // `R,number`.
@@ -96,7 +108,7 @@ impl<'a> Responses<'a> {
     {
         self.put_number(m.x);
         self.put_fields(&[m.y, m.tag, m.grade]);
-        self.put(b"\n");
+        self.push(b'\n');
     }
 
     // A line for each of the first k marks of a list.

@@ -2,11 +2,13 @@
 use mathlib.Core.Path.{refl}
 use native.Mathlib.Omega.{arith}
 use Rattle.dialogue.specs.Dialogue.{none}
+use Rattle.dialogue.specs.Values.{HasRoom}
 use Rattle.dialogue.proofs.Feeding.{fed-next, keeps-on}
 use Rattle.dialogue.proofs.dialogue.Dialogue.feed_some.Goals as goal
 
 pub loop-used-init : goal.loop-used-init
 loop-used-init c = (
+  refl,
   record {
     table = refl;
     first = refl;
@@ -25,9 +27,10 @@ pub loop-used-preserved : goal.loop-used-preserved
 loop-used-preserved c =
     let now = c.loop-used in
     let fed = c.feed.ensures in
-    let room = c.has_room.ensures.0 c.if-not-has_room.false in (
-      keeps-on now.invariant.0 fed.keeps,
+    let room : HasRoom now.self = omega (arith, now.invariant.0, c.room.ensures) in (
+      omega (arith, now.invariant.0, fed.keeps.first_length),
+      keeps-on now.invariant.1 fed.keeps,
       λ e. absurd (omega arith),
       rw (fed.fed.gathered room)
-          (fed-next c.args.chunk.now now.used c.loop-used-test.true now.invariant.2 fed.fed.holds),
+          (fed-next c.args.chunk.now now.used c.loop-used-test.true now.invariant.3 fed.fed.holds),
     )

@@ -10,4 +10,4 @@ pub loop-n-preserved : goal.loop-n-preserved
 loop-n-preserved c =
     let at = c.loop-n in
     rw (← fields-more c.args.numbers.now at.n-index c.loop-n-test.true)
-    (wrote_then at.invariant (wrote_then c.put.ensures c.put_number.ensures))
+    (wrote_then at.invariant (wrote_then c.push.ensures c.put_number.ensures))

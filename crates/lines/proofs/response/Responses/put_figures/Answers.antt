@@ -7,7 +7,7 @@ use Rattle.lines.proofs.response.Responses.put_figures.Goals as goal
 pub returns-clause-wrote : goal.returns-clause-wrote
 returns-clause-wrote c =
     rw (answer-parts c.args.letter c.args.figures.now) at
-    (wrote_then (wrote_then c.put.ensures c.put_fields.ensures) c.put-2.ensures)
+    (wrote_then (wrote_then c.push.ensures c.put_fields.ensures) c.push-2.ensures)
 
 pub returns-clause-short : goal.returns-clause-short
 returns-clause-short c = answer-short c.args.letter c.args.figures.now (words c.args.figures.now (λ i. omega (arith, c.type_inv.figures i)))

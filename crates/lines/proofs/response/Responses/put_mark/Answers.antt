@@ -9,7 +9,7 @@ use Rattle.lines.proofs.response.Responses.put_mark.Goals as goal
 pub returns-clause-wrote : goal.returns-clause-wrote
 returns-clause-wrote c =
     rw (mark-parts (mark_value c.args.m)) at
-    (wrote_then (wrote_then c.put_number.ensures c.put_fields.ensures) c.put.ensures)
+    (wrote_then (wrote_then c.put_number.ensures c.put_fields.ensures) c.push.ensures)
 
 pub returns-clause-short : goal.returns-clause-short
 returns-clause-short c =
