@@ -15,8 +15,10 @@ A round is an edit with several faults. Each is
 with as many pairs of old and new as it needs. Its place, the `at:` line (rt passes over it), is a file of proofs/ that must be refused by an error of its
 own: the answers of the function that the fault is in, or the law that a changed definition breaks. Behind the file may stand the name of the goal or law that
 must be refused, as `at: proofs/FUNCTION/Answers.antt returns-then-x`: so two faults of one function stand in one round. Otherwise no two faults of a round
-share a place. A function that is proved without a file has its place in the file that rt asks for when it is not; a goal that no answer is for has its place in
-the function's answers.
+share a place. A function that is proved without a file has its place in the file that rt asks for when it is not.
+
+A function's answers may leave goals to the tactics. Such a goal has its place in those answers, and is refused where the tactics prove it in the crate as it
+stands and leave it open in the edited one: no less than is asked where there is no file. One that lost its answer, is new or waits for a callee does not count.
 
 An edit without any `at:` line is one fault, and an error of its own in any file will do.
 
@@ -47,6 +49,7 @@ REFUSED = re.compile(r'^logic=not-proved', re.M)
 ERROR = re.compile(r'^(?:\./)?(\S+):\d+:\d+: error: (?:`([^`]*)`: )?(.*)$', re.M)
 WITHOUT_FILE = re.compile(r'^fn \S+: no proof: expected answers in (?:\./)?(\S+); `search` did not prove (.*)$', re.M)
 OPEN = re.compile(r'^note: \S+:\d+:\d+: it is not proved that .* \(`([^`]*)`\)', re.M)
+CLAUSE = '-clause-'
 OF_FUNCTION = re.compile(r'^fn (\S+): not proved', re.M)
 ROOM = pathlib.Path(tempfile.mkdtemp(prefix="rounds-"))
 
@@ -82,18 +85,38 @@ def refused_places(log):
     own = [(file, goal) for file, goal, what in ERROR.findall(log) if not any(words in what for words in NOT_ITS_OWN)]
     for file, goals in WITHOUT_FILE.findall(log):
         own.extend((file, goal) for goal in re.findall(r'`([^`]*)`', goals))
-    open_goals = []
-    for line in log.splitlines():  # a function's goals that no answer is for, and that the tactics leave open, stand before its own line
-        goal, function = OPEN.match(line), OF_FUNCTION.match(line)
-        if goal:
-            open_goals.append(goal.group(1))
-        elif function:
-            *way, name = function.group(1).split('::')[1:]
-            own.extend(('/'.join(['proofs', *way, begin + name, 'Answers.antt']), goal) for begin in ('', '+') for goal in open_goals)
-        if line.startswith('fn '):
-            open_goals = []
     for file, goal in own:
         places.update((file, file + ' ' + goal))
+    return places
+
+
+def left_open(log):
+    """The goals that the tactics leave open in functions with a file, each with the folder of its function."""
+    left, of_next = set(), []
+    for line in re.sub(r'\n  +', ' ', log).splitlines():  # a function's goals stand before its own line
+        goal, function = OPEN.match(line), OF_FUNCTION.match(line)
+        if goal:
+            of_next.append(goal[1])
+        elif function:
+            *way, name = function[1].split('::')[1:]
+            left.update(('/'.join(['proofs', *way, begin + name]), goal) for begin in ('', '+') for goal in of_next)
+        if line.startswith('fn '):
+            of_next = []
+    return left
+
+
+def by_tactics(home, was, left, goals):
+    """The places of those goals left open that the crate as it stands has, and has no answer for."""
+    places = set()
+    for folder, goal in left:
+        file = folder + '/Answers.antt'
+        if folder not in was or not (home / file).is_file():
+            continue
+        of_goal = goals.get(file) or {name: name for _, name in was[folder][0]}
+        answered = re.findall(r'(?m)^pub ([\w-]+) : goal\.', (home / file).read_text(encoding='utf8'))
+        for name in as_it_stands(of_goal, goal):
+            if name not in answered and name.partition(CLAUSE)[0] not in answered:
+                places.update((file, file + ' ' + name))
     return places
 
 
@@ -164,10 +187,22 @@ def follow(home, was, now):
         goals[folder + '/Answers.antt'] = of_goal
         text = file.read_text(encoding='utf8')
         text = re.sub(r"(?<![\w.'-])([cw]\.)([\w-]+)", lambda m: m[1] + of_step.get(m[2], m[2]), text)
-        text = re.sub(r'(?m)^(pub )([\w-]+)( : goal\.)([\w-]+)', lambda m: m[1] + of_goal.get(m[2], m[2]) + m[3] + of_goal.get(m[4], m[4]), text)
-        text = re.sub(r'(?m)^([\w-]+)(?= (?:\w+ )*c =)', lambda m: of_goal.get(m[1], m[1]), text)
+        text = re.sub(r'(?m)^(pub )([\w-]+)( : goal\.)([\w-]+)', lambda m: m[1] + in_edited(of_goal, m[2]) + m[3] + in_edited(of_goal, m[4]), text)
+        text = re.sub(r'(?m)^([\w-]+)(?= (?:\w+ )*c =)', lambda m: in_edited(of_goal, m[1]), text)
         file.write_text(text, encoding='utf8')
     return goals
+
+
+def in_edited(of_goal, name):
+    """A goal's name in the edited code. One of a single clause is named after the goal of all."""
+    goal, of, clause = name.partition(CLAUSE)
+    return of_goal.get(goal, goal) + of + clause
+
+
+def as_it_stands(of_goal, name):
+    """The names in the crate as it stands of the goal that has that name in the edited code."""
+    goal, of, clause = name.partition(CLAUSE)
+    return [was + of + clause for was, new in of_goal.items() if new == goal]
 
 
 def run(home, *words):
@@ -200,8 +235,8 @@ def check(room, crate, faults):
     refused = refused_places(said) if REFUSED.search(said) else set()
     for file, of_goal in goals.items():
         edited = {place for place in refused if place.startswith(file + ' ')}
-        refused = refused - edited | {file + ' ' + name for name, new in of_goal.items() if file + ' ' + new in edited}
-    return refused
+        refused = refused - edited | {file + ' ' + name for place in edited for name in as_it_stands(of_goal, place[len(file) + 1:])}
+    return refused | by_tactics(home, was, left_open(said), goals) if refused or REFUSED.search(said) else refused
 
 
 def read(path, rooms):
