@@ -27,6 +27,7 @@ keeps-on k l = record {
   table = l.table ∙ k.table;
   first = l.first ∙ k.first;
   second = l.second ∙ k.second;
+  line = l.line ∙ k.line;
   out = l.out ∙ k.out;
   table_length = l.table_length ∙ k.table_length;
   first_length = l.first_length ∙ k.first_length;

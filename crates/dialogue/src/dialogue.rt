@@ -18,7 +18,7 @@ pub struct Dialogue<'a> {
     table: &'a mut [u32],
     first: &'a mut [u32],
     second: &'a mut [u32],
-    line: OpenLine,
+    line: OpenLine<'a>,
     responses: Responses<'a>,
     ghost room: { Room first.now responses.bytes.now },
 }
@@ -28,28 +28,30 @@ impl<'a> Dialogue<'a> {
     ghost use Rattle.lines.specs.Values.{command_value, line_of};
     ghost use Rattle.lines.specs.Writing.{text_in, Wrote};
     ghost use Rattle.dialogue.specs.Responding.{Answered, Does};
-    ghost use Rattle.dialogue.specs.Dialogue.{RespondsOpen, Fed, Ended, Batched};
-    ghost use Rattle.dialogue.specs.Values.{lent_of, held_by, Opens, Keeps, Gathers};
+    ghost use Rattle.dialogue.specs.Dialogue.{dialogue, RespondsOpen, Fed, Ended, Batched};
+    ghost use Rattle.dialogue.specs.Values.{lent_of, held_by, Keeps, Gathers};
 
-    // On words that hold a table. The bytes have room for one response, so that every batch takes a byte (`Batched.some`).
+    // On words that hold a table, from a line that stands open. The bytes have room for one response, so that every batch takes a byte (`Batched.some`).
     pub fn new(
         table: &'a mut [u32],
         first: &'a mut [u32],
         second: &'a mut [u32],
+        line: OpenLine<'a>,
         out: &'a mut [u8],
     ) -> Dialogue<'a>
         requires { Room first.old out.old }
-        ensures opens { Opens (lends table.old first.old second.old) result }
+        ensures holds { held_by result ≡ dialogue (lends table.old first.old second.old) line.entry.bytes.now line.entry.len }
         ensures table { result.table.ghost_name ≡ table.entry.ghost_name }
         ensures first { result.first.ghost_name ≡ first.entry.ghost_name }
         ensures second { result.second.ghost_name ≡ second.entry.ghost_name }
+        ensures line { result.line.bytes.ghost_name ≡ line.entry.bytes.ghost_name }
         ensures out { result.responses.bytes.ghost_name ≡ out.entry.ghost_name }
     {
         Dialogue {
             table,
             first,
             second,
-            line: OpenLine::new(),
+            line,
             responses: Responses::new(out),
         }
     }

@@ -8,6 +8,7 @@ ghost use Rattle.dialogue.specs.Values.{held_by};
 ghost use Rattle.sheet.specs.Values.{Answers};
 
 use dialogue::Dialogue;
+use lines::input::OpenLine;
 use std::fmt;
 use std::io::{self, Read};
 
@@ -78,11 +79,18 @@ fn main(rt: HostRuntime) {
     let mut table = [0u32; 13184];
     let mut first = [0u32; 160];
     let mut second = [0u32; 160];
+    let mut line = [0u8; 48];
     // Far more than the longest response, so that the responses to a chunk go out in few writes.
     let mut out = [0u8; 65536];
     // No refusal: the words are those of a table for so many marks.
     register::open::open(&mut table, MARKS).unwrap();
-    let mut dialogue = Dialogue::new(&mut table, &mut first, &mut second, &mut out);
+    let mut dialogue = Dialogue::new(
+        &mut table,
+        &mut first,
+        &mut second,
+        OpenLine::new(&mut line),
+        &mut out,
+    );
     if let Err(stop) = run(&rt, &mut dialogue) {
         // Where standard error takes nothing either there is no one left to tell.
         let _ = rt.eprintln(stop);

@@ -13,6 +13,7 @@ loop-used-init c = (
     table = refl;
     first = refl;
     second = refl;
+    line = refl;
     out = refl;
     table_length = refl;
     first_length = refl;
