@@ -5,7 +5,7 @@ ghost use Rattle.nodes.specs.Arms.{arm_at, put_arm};
 ghost use Rattle.nodes.specs.Trees.{main_before_end};
 ghost use Rattle.nodes.specs.Values.{arm_value};
 
-use crate::arm::Arm;
+use crate::arm::{Arm, Node};
 use crate::secondary::Secondary;
 use crate::tree::Tree;
 use geometry::AlongX;
@@ -16,6 +16,9 @@ use table::layout;
 pub struct Primary {
     pub capacity: u32,
 }
+
+// The number of a main node. It is another tuple struct than that of an auxiliary node, so the one never goes in for the other.
+pub type PrimaryNode = Node<Primary>;
 
 impl Tree for Primary {
     type Along = AlongX;

@@ -15,6 +15,9 @@ pub struct Secondary {
     pub capacity: u32,
 }
 
+// The number of an auxiliary node.
+pub type SecondaryNode = Node<Secondary>;
+
 impl Tree for Secondary {
     type Along = AlongY;
 

@@ -9,8 +9,8 @@ ghost use Rattle.nodes.specs.Values.{arm_value, record_value};
 ghost use Rattle.primary_search.specs.Count.{level_records, leaf♯, hand_over♯, handed♯, main, main_search♯, count_from♯};
 
 use geometry::Box;
-use nodes::arm::{Arm, Node};
-use nodes::primary::Primary;
+use nodes::arm::Arm;
+use nodes::primary::{Primary, PrimaryNode};
 use nodes::record::Record;
 use nodes::secondary::Secondary;
 use secondary_search::search;
@@ -64,7 +64,7 @@ struct Depth<'a> {
 
 impl<'a> Depth<'a> {
     // The arrival at a node of that number whose cell is inside the box's side.
-    fn handed(self, b: Box, node: Node<Primary>, tally: Figures) -> Figures
+    fn handed(self, b: Box, node: PrimaryNode, tally: Figures) -> Figures
         ensures { result.0 ≡ handed♯ self.entry.t.now self.entry.level.capacity (box_value b) self.entry.level.base node.0 tally.0 }
     {
         let s = node.slot();
@@ -89,7 +89,7 @@ impl<'a> Search for Depth<'a> {
 
     ghost base = { λ depth. depth.level.base };
 
-    fn record(self, node: Node<Primary>) -> Option<Record<Primary>>
+    fn record(self, node: PrimaryNode) -> Option<Record<Primary>>
         ensures { MatchOption result (leb self.entry.level.capacity (node.0 / 2) ≡ true) (λ p.
             (leb self.entry.level.capacity (node.0 / 2) ≡ false) × (record_value p ≡ record_at self.entry.t.now (main_place (node.0 / 2)))) }
     {

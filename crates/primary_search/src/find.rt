@@ -6,8 +6,8 @@ ghost use Rattle.table.specs.Limits.{deepest};
 ghost use Rattle.primary_search.specs.Find.{find_beneath♯, find_from♯};
 
 use geometry::Mark;
-use nodes::arm::{Arm, Node};
-use nodes::primary::Primary;
+use nodes::arm::Arm;
+use nodes::primary::{Primary, PrimaryNode};
 use nodes::record::Record;
 use table::damage::Damaged;
 use table::{layout, limits, slots};
@@ -18,7 +18,7 @@ fn find_beneath(
     t: &[u32],
     capacity: u32,
     m: Mark,
-    start: Node<Primary>,
+    start: PrimaryNode,
 ) -> Result<Option<u32>, Damaged>
     requires { slots_end capacity ≤ length t.now }
     ensures { result ≡ find_beneath♯ deepest t.now capacity (mark_value m) start.0 }

@@ -3,8 +3,7 @@ ghost use Rattle.std.specs.Prelude.{◌≡◌, ◌≤◌, length};
 ghost use Rattle.table.specs.Layout.{runs_end};
 ghost use Rattle.primary_strike.specs.Lift.{lift♯};
 
-use nodes::arm::Node;
-use nodes::primary::Primary;
+use nodes::primary::{Primary, PrimaryNode};
 use nodes::record::Record;
 use nodes::secondary::Secondary;
 use table::limits;
@@ -13,7 +12,7 @@ use twofold_layout::levels;
 // Copies the auxiliary trees beneath a node, the root's from one level to that which begins at `to`, and each deeper one to the level that
 // was above it. What is beneath a node
 // of no slot, or in levels that are not there, stays as it is.
-pub fn lift(t: &mut [u32], from: Secondary, to: u32, node: Node<Primary>, fuel: u32)
+pub fn lift(t: &mut [u32], from: Secondary, to: u32, node: PrimaryNode, fuel: u32)
     requires { runs_end from.capacity ≤ length t.old }
     ensures { t.new ≡ lift♯ fuel from.capacity from.base to node.0 t.old }
 {

@@ -11,8 +11,8 @@ ghost use Rattle.primary_strike.specs.Strike.{lifted♯, struck_afresh♯, main,
 
 use crate::lift;
 use geometry::Mark;
-use nodes::arm::{Arm, Node};
-use nodes::primary::Primary;
+use nodes::arm::Arm;
+use nodes::primary::{Primary, PrimaryNode};
 use nodes::record::Record;
 use nodes::secondary::Secondary;
 use nodes::weights;
@@ -116,7 +116,7 @@ impl Striking for Depth {
     fn afresh(
         self,
         t: &mut [u32],
-        node: Node<Primary>,
+        node: PrimaryNode,
         weight: u32,
         s: u32,
     ) -> Result<Struck<Primary>, Damaged>

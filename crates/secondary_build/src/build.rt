@@ -9,9 +9,9 @@ ghost use Rattle.secondary_build.specs.Build.{run_leaf, build_over, build♯, re
 ghost use Rattle.secondary_build.specs.Values.{rebuilt_arm};
 
 use geometry::Axis;
-use nodes::arm::{Arm, Node};
+use nodes::arm::Arm;
 use nodes::record::Record;
-use nodes::secondary::Secondary;
+use nodes::secondary::{Secondary, SecondaryNode};
 use nodes::tree::Tree;
 use table::damage::Damaged;
 use table::{runs, slots};
@@ -85,7 +85,7 @@ pub fn build(t: &mut [u32], tree: Secondary, i: u32, n: u32) -> Arm<Secondary>
 pub fn rebuild(
     t: &mut [u32],
     tree: Secondary,
-    node: Node<Secondary>,
+    node: SecondaryNode,
     weight: u32,
     but: Option<u32>,
     many: u32,

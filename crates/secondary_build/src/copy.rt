@@ -3,12 +3,11 @@ ghost use Rattle.std.specs.Prelude.{◌≡◌, ◌≤◌, length};
 ghost use Rattle.table.specs.Layout.{record_place, level_end};
 ghost use Rattle.secondary_build.specs.Copy.{copy♯};
 
-use nodes::arm::Node;
 use nodes::record::Record;
-use nodes::secondary::Secondary;
+use nodes::secondary::{Secondary, SecondaryNode};
 
 // Copies the records beneath a node from one level to that which begins at `to`, fuel levels down. What is beneath a node of no slot stays as it is.
-pub fn copy(t: &mut [u32], from: Secondary, to: u32, node: Node<Secondary>, fuel: u32)
+pub fn copy(t: &mut [u32], from: Secondary, to: u32, node: SecondaryNode, fuel: u32)
     requires { (level_end from.base from.capacity ≤ length t.old) × (level_end to from.capacity ≤ length t.old) }
     ensures { t.new ≡ copy♯ fuel from.capacity (record_place from.base) (record_place to) node.0 t.old }
 {

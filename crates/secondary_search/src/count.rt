@@ -11,9 +11,9 @@ ghost use Rattle.secondary_search.specs.Count.{records, Records, auxiliary, coun
 use crate::search;
 use crate::search::Search;
 use geometry::Box;
-use nodes::arm::{Arm, Node};
+use nodes::arm::Arm;
 use nodes::record::Record;
-use nodes::secondary::Secondary;
+use nodes::secondary::{Secondary, SecondaryNode};
 use table::figures::Figures;
 
 // The records of a level.
@@ -34,7 +34,7 @@ impl<'a> Search for Level<'a> {
 
     ghost base = { λ level. 0 };
 
-    fn record(self, node: Node<Secondary>) -> Option<Record<Secondary>>
+    fn record(self, node: SecondaryNode) -> Option<Record<Secondary>>
         ensures { MatchOption result (leb (records self.entry.t.now) (node.0 / 2) ≡ true) (λ p.
             (leb (records self.entry.t.now) (node.0 / 2) ≡ false) × (record_value p ≡ record_at self.entry.t.now (record_place 0 (node.0 / 2)))) }
     {

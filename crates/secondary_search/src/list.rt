@@ -8,9 +8,9 @@ ghost use Rattle.table.specs.Limits.{deepest};
 ghost use Rattle.secondary_search.specs.List.{walk♯, list♯};
 
 use geometry::{AlongY, Axis, Box};
-use nodes::arm::{Arm, Node};
+use nodes::arm::Arm;
 use nodes::record::Record;
-use nodes::secondary::Secondary;
+use nodes::secondary::{Secondary, SecondaryNode};
 use table::tally::Tally;
 use table::{limits, slots};
 
@@ -29,7 +29,7 @@ struct Listing<'a> {
 impl<'a> Listing<'a> {
     // Writes the marks of every leaf beneath a node.
     #[tactic(auto, using(crate::proofs::Walks::walks), unfolding(crate::specs::List::walk_node, crate::specs::List::walk_leaf))]
-    fn walk(&self, node: Node<Secondary>, out: &mut [u32], tally: Tally, fuel: u32) -> Tally
+    fn walk(&self, node: SecondaryNode, out: &mut [u32], tally: Tally, fuel: u32) -> Tally
         ensures { after result.0 out.new
             ≡ walk♯ fuel self.now.t.now self.now.tree.capacity self.now.tree.base self.now.most node.0 tally.0 out.old }
     {

@@ -12,10 +12,10 @@ ghost use Rattle.secondary_update.specs.Values.{struck_value, strike_outcome, St
 use crate::walk;
 use crate::walk::{Striking, Struck, Target};
 use geometry::Mark;
-use nodes::arm::{Arm, Node};
+use nodes::arm::Arm;
 use nodes::primary::Primary;
 use nodes::record::Record;
-use nodes::secondary::Secondary;
+use nodes::secondary::{Secondary, SecondaryNode};
 use nodes::weights;
 use table::damage::Damaged;
 use table::{limits, runs};
@@ -90,7 +90,7 @@ impl Striking for Secondary {
     fn afresh(
         self,
         t: &mut [u32],
-        node: Node<Secondary>,
+        node: SecondaryNode,
         weight: u32,
         s: u32,
     ) -> Result<Struck<Secondary>, Damaged>
