@@ -13,7 +13,8 @@ unfolding child_at
 child-there at len true h = omega (arith, h)
 child-there at len false h = omega (arith, h)
 
-pub way-read : (xs : List ℕ) (at : ℕ) (left : Bool) → way_of (record_at xs at) left ≡ way left (arm_at xs (child_at at left)) (arm_at xs (child_at at (not left)))
+pub way-read : (xs : List ℕ) (at : ℕ) (left : Bool)
+    → way_of (record_at xs at) left ≡ way left (arm_at xs (child_at at left)) (arm_at xs (child_at at (not left)))
 unfolding way_of record_at child_at
 way-read xs at true = refl
 way-read xs at false = refl

@@ -43,10 +43,8 @@ impl Insertion<Primary> for Depth {
     }
 
     fn deeper(self) -> Depth {
-        let capacity = self.level.capacity;
-        let base = levels::deeper(self.level.base, capacity);
         Depth {
-            level: Secondary { base, capacity },
+            level: levels::next(self.level),
         }
     }
 

@@ -102,11 +102,9 @@ impl<'a> Search for Depth<'a> {
     }
 
     fn deeper(self) -> Depth<'a> {
-        let capacity = self.level.capacity;
-        let base = levels::deeper(self.level.base, capacity);
         Depth {
             t: self.t,
-            level: Secondary { base, capacity },
+            level: levels::next(self.level),
         }
     }
 

@@ -9,9 +9,8 @@ use nodes::secondary::Secondary;
 use table::limits;
 use twofold_layout::levels;
 
-// Copies the auxiliary trees beneath a node, the root's from one level to that which begins at `to`, and each deeper one to the level that
-// was above it. What is beneath a node
-// of no slot, or in levels that are not there, stays as it is.
+// Copies the auxiliary trees beneath a node, the root's from one level to that which begins at `to`, and each deeper one to the level that was above
+// it. What is beneath a node of no slot, or in levels that are not there, stays as it is.
 pub fn lift(t: &mut [u32], from: Secondary, to: u32, node: PrimaryNode, fuel: u32)
     requires { runs_end from.capacity ≤ length t.old }
     ensures { t.new ≡ lift♯ fuel from.capacity from.base to node.0 t.old }
@@ -32,10 +31,7 @@ pub fn lift(t: &mut [u32], from: Secondary, to: u32, node: PrimaryNode, fuel: u3
     let Record { left, right } = Record::load(t, tree, name);
     let root = Primary::load_auxiliary(t, name);
     secondary_build::copy::copy(t, from, to, root.node, limits::SIBLING_DEEPEST);
-    let below = Secondary {
-        base: levels::deeper(from.base, from.capacity),
-        ..from
-    };
+    let below = levels::next(from);
     lift(t, below, from.base, left.node, fuel - 1);
     lift(t, below, from.base, right.node, fuel - 1);
 }

@@ -52,10 +52,8 @@ impl Striking for Depth {
 
     #[inline]
     fn deeper(self) -> Depth {
-        let capacity = self.level.capacity;
-        let base = levels::deeper(self.level.base, capacity);
         Depth {
-            level: Secondary { base, capacity },
+            level: levels::next(self.level),
         }
     }
 

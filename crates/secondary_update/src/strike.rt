@@ -20,7 +20,7 @@ use nodes::weights;
 use table::damage::Damaged;
 use table::{limits, runs};
 
-#[tactic(auto, unfolding(crate::specs::Strike::node_over, crate::specs::Updates::strike_of))]
+#[tactic(auto, using(crate::proofs::Outcomes::rebuilt_unwrap_or), unfolding(crate::specs::Strike::node_over, crate::specs::Strike::strike_afresh, crate::specs::Strike::fresh_strike, crate::specs::Updates::strike_of))]
 impl Striking for Secondary {
     type Of = Secondary;
 
@@ -86,7 +86,6 @@ impl Striking for Secondary {
     }
 
     // Where the words hold no such tree, none is left.
-    #[tactic(auto, using(crate::proofs::Outcomes::rebuilt_unwrap_or), unfolding(crate::specs::Strike::strike_afresh, crate::specs::Strike::fresh_strike, crate::specs::Updates::strike_of))]
     fn afresh(
         self,
         t: &mut [u32],

@@ -2,6 +2,7 @@
 ghost use Rattle.std.specs.Prelude.{◌≡◌};
 ghost use Rattle.twofold_layout.specs.Levels.{top_level, deeper};
 
+use nodes::secondary::Secondary;
 use table::layout;
 
 // Where the level of the root begins.
@@ -18,4 +19,15 @@ pub fn deeper(base: u32, capacity: u32) -> u32
     ensures { result ≡ deeper base capacity }
 {
     (((base as usize) + layout::LEVEL * (capacity as usize)) % 4294967296) as u32
+}
+
+// The level of the auxiliary trees one depth further down.
+pub fn next(level: Secondary) -> Secondary
+    ensures base { result.base ≡ deeper level.base level.capacity }
+    ensures capacity { result.capacity ≡ level.capacity }
+{
+    Secondary {
+        base: deeper(level.base, level.capacity),
+        ..level
+    }
 }
