@@ -20,7 +20,7 @@ use nodes::weights;
 use table::damage::Damaged;
 use table::{limits, runs};
 
-#[tactic(auto, using(crate::proofs::Outcomes::rebuilt_unwrap_or), unfolding(crate::specs::Strike::node_over, crate::specs::Strike::strike_afresh, crate::specs::Strike::fresh_strike, crate::specs::Updates::strike_of))]
+#[tactic(auto, unfolding(crate::specs::Strike::node_over, crate::specs::Updates::strike_of))]
 impl Striking for Secondary {
     type Of = Secondary;
 
