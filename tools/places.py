@@ -19,7 +19,7 @@ POINTS = [
     ("4 equality, order, conversion by hand", r"\bfn (same|below\w*|of|bare|figures|lesser|greater|word|put_word)\b"),
     ("4 numbers written and read by hand", r"\bfn (read_on|read_number|read_field|put_number|put_byte|put_field|put_fields)\b"),
     ("4 casts by `as`", r"\bas (u8|u32|u64|usize)\b"),
-    ("5 `slots_end`, `runs_end`, `level_end` asked for", r"requires.*\b(slots_end|runs_end|level_end)\b"),
+    ("5 `slots_end`, `runs_end`, `level_end` asked for, by name or in a word for them", r"requires.*\b(slots_end|runs_end|level_end|Lent|There|Stands)\b"),
     ("5 room for a response asked for", r"requires.*\bRoom\b"),
     ("5 base and capacity side by side", r"\bbase: u32, capacity: u32|^\s+base: u32,$"),
     ("6 a length beside its buffer", r"\blen: u32\b"),
