@@ -1,6 +1,6 @@
 -- From what a call performs and what is gathered of its answer to the response. Assumes nothing.
 use Rattle.std.specs.Prelude.{Result, Ok, Err, IsOk}
-use Prim.Native.Nat.{ℕ, ◌+◌, ◌*◌, ◌≤◌}
+use Prim.Native.Nat.{ℕ, ◌+◌, ◌*◌, ◌^◌, ◌≤◌, ◌<◌}
 use mathlib.Core.Path.{◌≡◌, refl, sym, ap, ◌∙◌}
 use mathlib.Core.Logic.{◌≢◌}
 use mathlib.Core.List.{List, [], ◌∷◌, ◌++◌, append-nil}
@@ -58,9 +58,9 @@ module _ (c : Command) (before after : Lent) (a : Answer)
   done = record { performs = p; first_length = first; second_length = second }
 
   -- nothing is gathered of a refusal
-  pub answered-refused : (r : Responses) (e : Refusal) → a.number ≡ number_of e
+  pub answered-refused : (r : Responses) → r.len < 2 ^ 64 → length r.bytes.now < 2 ^ 64 → (e : Refusal) → a.number ≡ number_of e
       → (text : List ℕ) × Wrote text r r × Answered c before after text (Err e)
-  answered-refused r e same = ([], wrote_nothing r, refused done same refl)
+  answered-refused r h size e same = ([], wrote_nothing r h size, refused done same refl)
 
   -- a response of one line
   pub answered-line : {r s : Responses} → a.number ≡ 0 → marks_after c a ≡ [] → Wrote (answer_line (letter c) (figures c a)) r s

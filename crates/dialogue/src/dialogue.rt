@@ -1,6 +1,6 @@
 // A dialogue byte by byte: the open line is gathered, and performed when a line feed or the end of the input ends it. The responses are gathered one behind
 // the other, as long as there is room for one more.
-ghost use Rattle.std.specs.Prelude.{◌≡◌, List, ℕ};
+ghost use Rattle.std.specs.Prelude.{◌≡◌, ◌<◌, ◌^◌, List, ℕ};
 ghost use Rattle.dialogue.specs.Responding.{Room};
 
 use lines::command::Command;
@@ -21,6 +21,7 @@ pub struct Dialogue<'a> {
     line: OpenLine<'a>,
     responses: Responses<'a>,
     ghost room: { Room first.now responses.bytes.now },
+    ghost counted: { responses.len < 2 ^ 64 },
 }
 
 impl<'a> Dialogue<'a> {
@@ -46,6 +47,7 @@ impl<'a> Dialogue<'a> {
         ensures second { result.second.ghost_name ≡ second.entry.ghost_name }
         ensures line { result.line.bytes.ghost_name ≡ line.entry.bytes.ghost_name }
         ensures out { result.responses.bytes.ghost_name ≡ out.entry.ghost_name }
+        ensures none { result.responses.len ≡ 0 }
     {
         Dialogue {
             table,

@@ -9,12 +9,12 @@ use geometry::Mark;
 use itoa::write_digits;
 use table::slots;
 
-// Responses one behind the other. The bytes are lent, since nothing here takes memory; what finds no room in them is left out.
+// Responses one behind the other. The bytes are lent, since nothing here takes memory; what finds no room in them is left out. The length counts that too, so
+// that a text which was cut is told from a whole one.
 #[derive(Drop)]
 pub struct Responses<'a> {
-    bytes: &'a mut [u8],
-    len: usize,
-    ghost within: { len ≤ length bytes.now },
+    pub bytes: &'a mut [u8],
+    pub len: usize,
 }
 
 impl<'a> Responses<'a> {
@@ -30,14 +30,14 @@ impl<'a> Responses<'a> {
     pub fn text(&self) -> &[u8]
         ensures { result.now ≡ text_in self.now }
     {
-        &self.bytes[..self.len]
+        &self.bytes[..self.len.min(self.bytes.len())]
     }
 
     // How many bytes more find room.
     pub fn room(&self) -> usize
         ensures { result ≡ length self.now.bytes.now - self.now.len }
     {
-        self.bytes.len() - self.len
+        self.bytes.len().saturating_sub(self.len)
     }
 
     // Begins anew.
@@ -47,25 +47,28 @@ impl<'a> Responses<'a> {
         self.len = 0;
     }
 
-    fn push(&mut self, byte: u8)
+    pub fn push(&mut self, byte: u8)
         ensures { Wrote (byte ∷ []) self.old self.new }
     {
         if self.len < self.bytes.len() {
             self.bytes[self.len] = byte;
-            self.len += 1;
         }
+        self.len = self.len.saturating_add(1);
     }
 
     fn put(&mut self, text: &[u8])
         ensures { Wrote text.now self.old self.new }
     {
+        let at = self.len;
         let fits = text.len().min(self.room());
-        self.bytes[self.len..self.len + fits].copy_from_slice(&text[..fits]);
-        self.len += fits;
+        self.len = at.saturating_add(text.len());
+        if 0 < fits {
+            self.bytes[at..at + fits].copy_from_slice(&text[..fits]);
+        }
     }
 
     // In decimal: a word has at most ten digits.
-    fn put_number(&mut self, n: u32)
+    pub fn put_number(&mut self, n: u32)
         ensures { Wrote (digits n) self.old self.new }
     {
         let mut digits = [0; 10];

@@ -15,7 +15,7 @@ returns-in_err-done-in-Insert-clause-answered c =
     let is = c.in-Insert in
     let e = c.in_err-done-in-Insert in
     let stopped = err_from_is_err_and c.from_residual.result c.from_residual.ensures.1 in
-    rw (stopped.1, stopped.2, is.is) (answered-refused (insert (mark_value is.m)) _ _ _ refl refl e.ensures _ e.field-0.0 refl)
+    rw (stopped.1, stopped.2, is.is) (answered-refused (insert (mark_value is.m)) _ _ _ refl refl e.ensures _ (omega arith) (omega arith) e.field-0.0 refl)
 
 pub returns-in_ok-done-in-Insert-clause-answered : goal.returns-in_ok-done-in-Insert-clause-answered
 returns-in_ok-done-in-Insert-clause-answered c =
@@ -28,7 +28,7 @@ returns-in_err-done-in-Strike-clause-answered c =
     let is = c.in-Strike in
     let e = c.in_err-done-in-Strike in
     let stopped = err_from_is_err_and c.from_residual-in_err-done-in-Strike.result c.from_residual-in_err-done-in-Strike.ensures.1 in
-    rw (stopped.1, stopped.2, is.is) (answered-refused (strike is.x is.y is.tag) _ _ _ refl refl e.ensures _ e.field-0.0 refl)
+    rw (stopped.1, stopped.2, is.is) (answered-refused (strike is.x is.y is.tag) _ _ _ refl refl e.ensures _ (omega arith) (omega arith) e.field-0.0 refl)
 
 pub returns-in_ok-done-in-Strike-clause-answered : goal.returns-in_ok-done-in-Strike-clause-answered
 returns-in_ok-done-in-Strike-clause-answered c =
@@ -41,7 +41,7 @@ returns-in_err-counted-in-Count-clause-answered c =
     let is = c.in-Count in
     let e = c.in_err-counted-in-Count in
     let stopped = err_from_is_err_and c.from_residual-in_err-counted-in-Count.result c.from_residual-in_err-counted-in-Count.ensures.1 in
-    rw (stopped.1, stopped.2, is.is) (answered-refused (count (box_value is.b)) _ _ _ refl refl e.ensures _ e.field-0.0 refl)
+    rw (stopped.1, stopped.2, is.is) (answered-refused (count (box_value is.b)) _ _ _ refl refl e.ensures _ (omega arith) (omega arith) e.field-0.0 refl)
 
 pub returns-in_ok-counted-in-Count-clause-answered : goal.returns-in_ok-counted-in-Count-clause-answered
 returns-in_ok-counted-in-Count-clause-answered c =
@@ -54,7 +54,8 @@ returns-in_err-listed-in-List-clause-answered c =
     let is = c.in-List in
     let e = c.in_err-listed-in-List in
     let stopped = err_from_is_err_and c.from_residual-in_err-listed-in-List.result c.from_residual-in_err-listed-in-List.ensures.1 in
-    rw (stopped.1, stopped.2, is.is) (answered-refused (list (box_value is.b)) _ _ _ c.list.auto.first c.list.auto.second e.ensures _ e.field-0.0 refl)
+    rw (stopped.1, stopped.2, is.is)
+    (answered-refused (list (box_value is.b)) _ _ _ c.list.auto.first c.list.auto.second e.ensures _ (omega arith) (omega arith) e.field-0.0 refl)
 
 pub returns-in-First-clause-answered : goal.returns-in-First-clause-answered
 returns-in-First-clause-answered c =

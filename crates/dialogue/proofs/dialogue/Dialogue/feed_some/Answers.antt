@@ -1,6 +1,7 @@
 -- `feed_some` meets its contract. Assumes nothing.
 use mathlib.Core.Path.{refl}
 use native.Mathlib.Omega.{arith}
+use Rattle.lines.proofs.Writing.{wrote-fits}
 use Rattle.dialogue.specs.Dialogue.{none}
 use Rattle.dialogue.specs.Values.{HasRoom}
 use Rattle.dialogue.proofs.Feeding.{fed-next, keeps-on}
@@ -21,6 +22,7 @@ loop-used-init c = (
     out_length = refl;
   },
   λ e. c.clear.ensures.1,
+  omega (arith, c.clear.ensures.1),
   rw c.clear.ensures.1 none,
 )
 
@@ -32,6 +34,7 @@ loop-used-preserved c =
       omega (arith, now.invariant.0, fed.keeps.first_length),
       keeps-on now.invariant.1 fed.keeps,
       λ e. absurd (omega arith),
+      wrote-fits fed.fed.wrote now.invariant.3 (fed.fed.gathered room),
       rw (fed.fed.gathered room)
-          (fed-next c.args.chunk.now now.used c.loop-used-test.true now.invariant.3 fed.fed.holds),
+          (fed-next c.args.chunk.now now.used c.loop-used-test.true now.invariant.4 fed.fed.holds),
     )

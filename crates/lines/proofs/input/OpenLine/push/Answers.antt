@@ -1,5 +1,4 @@
 -- `push` meets its contract. Assumes nothing.
-use native.Mathlib.Omega.{arith}
 use borrow.Author.Tests.{le-leb, lt-leb}
 use Rattle.std.proofs.Math.Seq.{set_out}
 use Rattle.lines.specs.Input.{gather}
